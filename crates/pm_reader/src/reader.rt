@@ -14,6 +14,7 @@ use crate::window::Window;
 use arrayvec::ArrayVec;
 use pm_base::{Event, Failed};
 use pm_io::{Inputs, TOO_LONG};
+use pm_script::read_first;
 use std::marker::Model;
 
 /// A line without its line feed.
@@ -109,19 +110,32 @@ impl LineReader {
         self.take_meant(inputs, id, line, event)
     }
 
-    /// The event of the next line, read where the line stands, if it is held whole and no byte past the limit came. So most
-    /// lines are never copied.
-    #[inline]
+    /// The event of the next line, read where the line stands, if it is held whole and no byte past the limit came. So
+    /// most lines are never copied, and the line feed of most is found while they are read.
+    #[inline(always)]
     fn give_meant(&mut self, event: &mut Event) -> Option<Meant>
         ensures { MatchOption result (self.new ≡ self.old) (λ meant. GaveMeant self.old self.new meant event.new) }
     {
         if self.credit == 0 {
             return None;
         }
-        let bytes = self.window.bytes();
-        let feed = first_feed(bytes)?;
-        let meant = meant_by(&bytes[..feed], event);
+        let Some(feed) = read_first(self.window.bytes(), event) else {
+            return self.give_by_feed(event);
+        };
         self.window.consume(feed + 1);
+        Some(Meant::Event)
+    }
+
+    /// The same of any line: its line feed is found first.
+    #[inline(never)]
+    fn give_by_feed(&mut self, event: &mut Event) -> Option<Meant>
+        requires { 0 < self.old.credit }
+        ensures { MatchOption result (self.new ≡ self.old) (λ meant. GaveMeant self.old self.new meant event.new) }
+    {
+        let bytes = self.window.bytes();
+        let end = first_feed(bytes)?;
+        let meant = meant_by(&bytes[..end], event);
+        self.window.consume(end + 1);
         Some(meant)
     }
 

@@ -1,7 +1,9 @@
 pub mod ArgumentsLemmas
+pub mod FirstLineLemmas
 pub mod FormsLemmas
 pub mod MeaningLemmas
 pub mod NamedLemmas
+pub mod NumbersMeanLemmas
 pub mod ObjectLineLemmas
 pub mod SentencesLemmas
 pub mod ShortLemmas

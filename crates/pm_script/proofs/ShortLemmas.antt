@@ -1,29 +1,30 @@
--- What the numbers of a short line mean.
-use Rattle.std.proofs.Common.{◌≡◌, ℕ, zero, suc, ◌+◌, ◌-◌, ◌*◌, ◌^◌, ◌<◌, ◌≤◌, ◌==◌, ◌&&◌, Bool, true, false, if◌then◌else◌, List, [], ◌∷◌, ◌++◌, length, drop, take, map, get_or, Option, Some, None, unwrap_or, slice_index, Ok, nat_le, nat_lt, refl, sym, ap, ◌∙◌, arith, subst}
-use Rattle.std.specs.Prelude.{slice_range, IfSome}
+-- How a short line is read: its numbers, and its keyword.
+use Rattle.std.proofs.Common.{◌≡◌, ◌≢◌, ℕ, ◌+◌, ◌-◌, ◌*◌, ◌^◌, ◌<◌, ◌≤◌, ◌==◌, ◌&&◌, Bool, true, false, if◌then◌else◌, List, [], ◌∷◌, ◌++◌, length, drop, take, map, get_or, Option, Some, None, slice_index, nat_le, nat_lt, refl, sym, ap, ◌∙◌, arith, subst}
+use Rattle.std.specs.Prelude.{slice_range}
 use Rattle.std.specs.Char.{is_digit, digit_value}
 use Rattle.std.specs.List.{list_all}
 use Rattle.std.specs.Str.Parse.{digits_value}
 use Rattle.std.proofs.lemmas.Bool.Decides.{nat_tests}
 use Rattle.std.proofs.Math.Seq.{take-append_seam}
 use Rattle.std.proofs.lemmas.Int.Digits.{digits_value_push}
-use Rattle.std.proofs.lemmas.List.{get_or-drop, length-drop, length-take, drop_more, take_more}
+use Rattle.std.proofs.lemmas.List.{get_or-drop, length-drop, length-take, at_drop_all, drop_more, take_more}
 use Rattle.std.proofs.lemmas.List.Folds.{list_all-append}
 use Rattle.pm_base.proofs.Booleans.{both}
 use Rattle.pm_base.specs.declared.events.Event.{Event}
-use Rattle.pm_base.specs.declared.events.Event.TheVariants as events
-use Rattle.pm_io.specs.Lines.{is_plain, without_return}
-use Rattle.pm_io.specs.Numbers.{at_most, number_of}
+use Rattle.pm_base.specs.declared.events.Event.TheVariants.{Pass}
+use Rattle.pm_io.specs.Lines.{is_plain}
 use Rattle.pm_io.specs.Words.{is_blank, text_between, words, words_from, word_texts}
-use Rattle.pm_io.proofs.WordsLemmas.{words_from-between, words_from-end}
+use Rattle.pm_io.proofs.WordsLemmas.{words_from-between, words_from-end, words_from-none}
 use Rattle.pm_script.specs.declared.forms.Kind.{Kind}
 use Rattle.pm_script.specs.declared.forms.Kind.TheVariants as kinds
-use Rattle.pm_script.specs.ObjectLine.{numbers_of, with_number}
-use Rattle.pm_script.specs.Sentences.{address_of_word, boot_event, is_number, message_of_words, number_of_place, number_of_word, numbers_meaning}
-use Rattle.pm_script.specs.Short.{IsMeant, keyword_of, message_of_numbers}
-use Rattle.pm_script.proofs.ObjectLineLemmas.{joined, one_more}
-use Rattle.pm_script.proofs.SentencesLemmas.{boots, interrupts, message, ticks, waits, wakes}
-use Rattle.pm_script.proofs.WordsLemmas.{comment_begins, words_is}
+use Rattle.pm_script.specs.ObjectLine.{numbers_of}
+use Rattle.pm_script.specs.Sentences.{number_of_word}
+use Rattle.pm_script.specs.declared.short.ShortNumber.{ShortNumber}
+use Rattle.pm_script.specs.Meaning.{words_meaning}
+use Rattle.pm_script.specs.Short.{EndsPlain, IsMeant, MeansPlain, StandsAt, first_line, keyword_of, words_after}
+use Rattle.pm_script.proofs.FirstLineLemmas.{byte_on, line_ends, line_from, plain_whole}
+use Rattle.pm_script.proofs.ObjectLineLemmas.{joined, no_more, one_more}
+use Rattle.pm_script.proofs.WordsLemmas.{blank_on, comment_begins, solid_on, word_begins, words_is}
 
 -- ---- the number of a short word
 
@@ -106,131 +107,137 @@ blank_ends line at start within is =
     let blank = blank_byte (get_or line at 0) is in
     words_from-end line at (Some start) start within refl blank ∙ ap (λ (later : List (ℕ × ℕ)). (start, at) ∷ later) (sym (words_from-between line at None within refl blank))
 
--- one more number was found, up to a blank
-pub put_behind : (line : List ℕ) (at end number : ℕ) (blank : Option ℕ) (front new : List ℕ) (whole : Option (List ℕ))
-    → joined front (numbers_of (map (text_between line) (words_from None at (drop at line)))) ≡ whole
-    → blank ≡ Some end
-    → words_from None at (drop at line) ≡ (at, unwrap_or blank (length line)) ∷ words_from None (unwrap_or blank (length line)) (drop (unwrap_or blank (length line)) line)
-    → number_of_word (text_between line (at, unwrap_or blank (length line))) ≡ Some number
-    → words_from None (end + 1) (drop (end + 1) line) ≡ words_from None end (drop end line)
-    → new ≡ front ++ number ∷ []
-    → joined new (numbers_of (map (text_between line) (words_from None (end + 1) (drop (end + 1) line)))) ≡ whole
-put_behind line at end number None front new whole so_far is word good on more = cc
-put_behind line at end number (Some other) front new whole so_far is word good on more =
-    let same : other ≡ end = cc in
-    let next : words_from None (end + 1) (drop (end + 1) line) ≡ words_from None other (drop other line) = on ∙ ap (λ n. words_from None n (drop n line)) (sym same) in
-    rw (more, next) (one_more line front (words_from None at (drop at line)) whole so_far (at, other) (words_from None other (drop other line)) number word good)
+-- the digits that were passed are those of a word, and go on with it
+pub record Digits (line : List ℕ) (from at value : ℕ) : Type 0 where
+  pub begun : from < at
+  pub within : at ≤ length line
+  pub plain : list_all is_plain (drop at line) ≡ list_all is_plain (drop from line)
+  pub word : words_from (Some from) at (drop at line) ≡ words_from None from (drop from line)
+  pub digits : list_all (λ byte. is_digit byte 10) (slice_range line from at) ≡ true
+  pub value_is : digits_value 10 (slice_range line from at) ≡ value
+  pub fits : value < 2 ^ 32
 
--- the blank that was found
-pub blank_at : (line : List ℕ) (end : ℕ) (blank : Option ℕ) → blank ≡ Some end → IfSome blank (λ at. (at < length line) × (get_or line at 0 ≡ 32)) → (end < length line) × (get_or line end 0 ≡ 32)
-blank_at line end blank is found = subst (λ (b : Option ℕ). IfSome b (λ at. (at < length line) × (get_or line at 0 ≡ 32))) is found
+-- a byte that makes a number of another one
+pub record IsDigit (byte before more : ℕ) : Type 0 where
+  pub digit : is_digit byte 10 ≡ true
+  pub solid : (nat_le 33 byte && nat_le byte 126) ≡ true
+  pub sign : byte ≢ 35
+  pub value : more ≡ before * 10 + digit_value byte
+  pub fits : more < 2 ^ 32
 
--- what is plain up to the blank
-pub goes_plain : (line : List ℕ) (at end : ℕ) (blank : Option ℕ) → blank ≡ Some end → list_all is_plain (drop (unwrap_or blank (length line)) line) ≡ list_all is_plain (drop at line) → list_all is_plain (drop end line) ≡ list_all is_plain (drop at line)
-goes_plain line at end None is plain = cc
-goes_plain line at end (Some other) is plain = let same : other ≡ end = cc in ap (λ n. list_all is_plain (drop n line)) (sym same) ∙ plain
+pub solid_other : (byte : ℕ) → (nat_le 33 byte && nat_le byte 126) ≡ true → (byte == 10) ≡ false
+solid_other byte solid = grind (arith, nat_tests)
 
--- ---- what numbers mean behind a keyword
+-- the same of the line's byte
+of_line : (byte other value more : ℕ) → other ≡ byte → IsDigit byte value more → IsDigit other value more
+of_line byte other value more same is = subst (λ b. IsDigit b value more) (sym same) is
 
--- what words say whose numbers these are
-pub record Numbered (words : List (List ℕ)) (numbers : List ℕ) : Type 0 where
-  pub count : length words ≡ length numbers
-  pub all : list_all is_number words ≡ true
-  pub at : (k : ℕ) → number_of_place words k ≡ get_or numbers k 0
+module _ (text : List ℕ) (from at : ℕ) where
+  -- the first digit
+  pub digits_first : (number : ℕ) → from ≤ length (first_line text) → from < length text → IsDigit (get_or text from 0) 0 number → Digits (first_line text) from (from + 1) number
+  digits_first number before within is =
+      let on = byte_on text from before within (solid_other (get_or text from 0) is.solid) in
+      let digit = of_line (get_or text from 0) (get_or (first_line text) from 0) 0 number on.1 is in
+      record {
+        begun = omega arith;
+        within = omega (arith, on.0);
+        plain = (solid_on (first_line text) from on.0 digit.solid).0;
+        word = sym (word_begins (first_line text) from on.0 digit.solid digit.sign);
+        digits = digits_begin (first_line text) from on.0 digit.digit;
+        value_is = value_begins (first_line text) from on.0 number digit.value;
+        fits = digit.fits;
+      }
 
-numbered_more : (word : List ℕ) (words : List (List ℕ)) (first : Option ℕ) (rest : Option (List ℕ)) (numbers : List ℕ) → number_of_word word ≡ first
-    → ((more : List ℕ) → rest ≡ Some more → Numbered words more) → with_number first rest ≡ Some numbers → Numbered (word ∷ words) numbers
-numbered_more word words None rest numbers first later is = cc
-numbered_more word words (Some number) None numbers first later is = cc
-numbered_more word words (Some number) (Some more) numbers first later is =
-    let same : number ∷ more ≡ numbers = cc in
-    let rest : Numbered words more = later more refl in
-    subst (λ (ns : List ℕ). Numbered (word ∷ words) ns) same (record {
-      count = ap suc rest.count;
-      all = rw first rest.all;
-      at = by rest.at;
-    })
-  where
-    by : ((k : ℕ) → number_of_place words k ≡ get_or more k 0) → (k : ℕ) → number_of_place (word ∷ words) k ≡ get_or (number ∷ more) k 0
-    by at zero = rw first refl
-    by at (suc k) = at k
+  -- one digit more
+  pub digits_next : (value more : ℕ) → at < length text → IsDigit (get_or text at 0) value more → Digits (first_line text) from at value → Digits (first_line text) from (at + 1) more
+  digits_next value more within is so_far =
+      let on = byte_on text at so_far.within within (solid_other (get_or text at 0) is.solid) in
+      let digit = of_line (get_or text at 0) (get_or (first_line text) at 0) value more on.1 is in
+      let step = solid_on (first_line text) at on.0 digit.solid in
+      let after : from ≤ at = omega (arith, so_far.begun) in
+      record {
+        begun = omega (arith, so_far.begun);
+        within = omega (arith, on.0);
+        plain = step.0 ∙ so_far.plain;
+        word = step.1 from ∙ so_far.word;
+        digits = digits_on (first_line text) from at after on.0 digit.digit so_far.digits;
+        value_is = value_on (first_line text) from at after on.0 value more so_far.value_is digit.value;
+        fits = digit.fits;
+      }
 
-pub numbered : (words : List (List ℕ)) (numbers : List ℕ) → numbers_of words ≡ Some numbers → Numbered words numbers
-numbered [] numbers is = let same : [] ≡ numbers = cc in subst (λ (ns : List ℕ). Numbered [] ns) same (record { count = refl; all = refl; at = λ k. refl })
-numbered (word ∷ words) numbers is = numbered_more word words (number_of_word word) (numbers_of words) numbers refl (numbered words) is
+  -- a blank ends the word
+  pub stands_between : (number : ℕ) → at < length text → get_or text at 0 ≡ 32 → Digits (first_line text) from at number
+      → StandsAt text from (record { number = number; end = at; is_last = false })
+  stands_between number within blank so_far =
+      let line = first_line text in
+      let other : (get_or text at 0 == 10) ≡ false = grind (arith, nat_tests) in
+      let on = byte_on text at so_far.within within other in
+      record {
+        within = within;
+        before = so_far.within;
+        stops = blank;
+        plain = so_far.plain;
+        place = sym so_far.word ∙ blank_ends line at from on.0 (on.1 ∙ blank);
+        number = short_means line from at number so_far.begun so_far.within so_far.digits so_far.value_is so_far.fits;
+      }
 
--- as many numbers as a line takes
-numbers_mean : (least most : ℕ) (event : List (List ℕ) → Event) (words : List (List ℕ)) (numbers : List ℕ) → Numbered words numbers → least ≤ length numbers → length numbers ≤ most
-    → numbers_meaning least most event words ≡ Ok (event words)
-numbers_mean least most event words numbers are enough few =
-    let least_is : nat_le least (length words) ≡ true = grind (arith, nat_tests, are.count) in
-    let most_is : nat_le (length words) most ≡ true = grind (arith, nat_tests, are.count) in
-    rw (least_is, most_is, are.all) refl
+  -- the line feed ends it
+  pub stands_last : (number : ℕ) → at < length text → get_or text at 0 ≡ 10 → Digits (first_line text) from at number
+      → StandsAt text from (record { number = number; end = at; is_last = true })
+  stands_last number within feed so_far =
+      let line = first_line text in
+      let past : length line ≤ at = omega (arith, line_ends text at so_far.within within feed) in
+      let none : words_from None at (drop at line) ≡ [] = words_from-none line at None past refl in
+      record {
+        within = within;
+        before = so_far.within;
+        stops = feed;
+        plain = so_far.plain;
+        place =
+            sym so_far.word
+            ∙ at_drop_all (words_from (Some from) at) line at past
+            ∙ ap (λ (later : List (ℕ × ℕ)). (from, at) ∷ later) (sym none);
+        number = short_means line from at number so_far.begun so_far.within so_far.digits so_far.value_is so_far.fits;
+      }
 
-pub message_meant : (numbers : List ℕ) → 2 ≤ length numbers → length numbers ≤ 7 → IsMeant kinds.Ipi numbers (events.Ipi (record { 0 = get_or numbers 0 0 }) (message_of_numbers numbers))
-message_meant numbers enough few words is =
-    let are = numbered words numbers is in
-    message words ∙ numbers_mean 2 7 (λ words. events.Ipi (record { 0 = number_of_place words 0 }) (message_of_words words)) words numbers are enough few
-    ∙ rw (are.at 0, are.at 1, are.at 2, are.at 3, are.at 4, are.at 5, are.at 6) refl
+-- one more number was found, before a blank
+module _ (text : List ℕ) (at : ℕ) (word : ShortNumber) (stands : StandsAt text at word) where
+  before_blank : word.is_last ≡ false → (word.end < length (first_line text)) × (get_or (first_line text) word.end 0 ≡ 32)
+  before_blank more =
+      let blank : get_or text word.end 0 ≡ 32 = stands.stops ∙ ap (λ (b : Bool). if b then 10 else 32) more in
+      let other : (get_or text word.end 0 == 10) ≡ false = grind (arith, nat_tests) in
+      let on = byte_on text word.end stands.before stands.within other in
+      (on.0, on.1 ∙ blank)
 
-module _ (numbers : List ℕ) (one : length numbers ≡ 1) where
-  pub wait_meant : IsMeant kinds.Wfi numbers (events.Wfi (record { 0 = get_or numbers 0 0 }))
-  wait_meant words is =
-      let are = numbered words numbers is in
-      waits words ∙ numbers_mean 1 1 (λ words. events.Wfi (record { 0 = number_of_place words 0 })) words numbers are (omega (arith, one)) (omega (arith, one)) ∙ rw (are.at 0) refl
+  pub past_blank : word.is_last ≡ false
+      → (word.end < length (first_line text)) × (list_all is_plain (drop (word.end + 1) (first_line text)) ≡ list_all is_plain (drop at (first_line text)))
+      × (words_from None (word.end + 1) (drop (word.end + 1) (first_line text)) ≡ words_from None word.end (drop word.end (first_line text)))
+  past_blank more =
+      let blank = before_blank more in
+      let on = blank_on (first_line text) word.end blank.0 (blank_byte (get_or (first_line text) word.end 0) blank.1) in
+      (blank.0, on.0 ∙ stands.plain, on.1)
 
-  pub interrupt_meant : IsMeant kinds.Irq numbers (events.Irq (record { 0 = get_or numbers 0 0 }))
-  interrupt_meant words is =
-      let are = numbered words numbers is in
-      interrupts words ∙ numbers_mean 1 1 (λ words. events.Irq (record { 0 = number_of_place words 0 })) words numbers are (omega (arith, one)) (omega (arith, one)) ∙ rw (are.at 0) refl
+  -- or before the line feed
+  pub at_feed : word.is_last ≡ true → word.end ≡ length (first_line text)
+  at_feed last = line_ends text word.end stands.before stands.within (stands.stops ∙ ap (λ (b : Bool). if b then 10 else 32) last)
 
-  pub wake_meant : IsMeant kinds.Gic numbers (events.Gic (record { 0 = get_or numbers 0 0 }))
-  wake_meant words is =
-      let are = numbered words numbers is in
-      wakes words ∙ numbers_mean 1 1 (λ words. events.Gic (record { 0 = number_of_place words 0 })) words numbers are (omega (arith, one)) (omega (arith, one)) ∙ rw (are.at 0) refl
+  -- it is put behind the others
+  module _ (front new : List ℕ) (whole : Option (List ℕ)) (so_far : joined front (numbers_of (words_after (first_line text) at)) ≡ whole) (put : new ≡ front ++ word.number ∷ []) where
+    behind : joined new (numbers_of (words_after (first_line text) word.end)) ≡ whole
+    behind =
+        let line = first_line text in
+        rw put (one_more line front (words_from None at (drop at line)) whole so_far (at, word.end) (words_from None word.end (drop word.end line)) word.number stands.place stands.number)
 
-  pub tick_meant : IsMeant kinds.Tick numbers (events.Tick (get_or numbers 0 0))
-  tick_meant words is =
-      let are = numbered words numbers is in
-      ticks words ∙ numbers_mean 1 1 (λ words. events.Tick (number_of_place words 0)) words numbers are (omega (arith, one)) (omega (arith, one)) ∙ rw (are.at 0) refl
+    pub put_between : word.is_last ≡ false → joined new (numbers_of (words_after (first_line text) (word.end + 1))) ≡ whole
+    put_between more = ap (λ (later : List (ℕ × ℕ)). joined new (numbers_of (map (text_between (first_line text)) later))) (past_blank more).2 ∙ behind
 
--- a number of 32 bits is one of 64 bits
-wider : (value : Option ℕ) (n : ℕ) → at_most (2 ^ 32 - 1) value ≡ Some n → at_most (2 ^ 64 - 1) value ≡ Some n
-wider None n is = cc
-wider (Some value) n is = by (nat_le value (2 ^ 32 - 1)) refl is
-  where
-    by : (b : Bool) → nat_le value (2 ^ 32 - 1) ≡ b → (if b then Some value else None) ≡ Some n → at_most (2 ^ 64 - 1) (Some value) ≡ Some n
-    by false fits is = cc
-    by true fits is =
-        let wide : nat_le value (2 ^ 64 - 1) ≡ true = grind (arith, nat_tests) in
-        rw wide is
-
-boot_by : (proc address : List ℕ) (first second : Option ℕ) (numbers : List ℕ) → number_of_word proc ≡ first → number_of_word address ≡ second → with_number first (with_number second (Some [])) ≡ Some numbers
-    → boot_event (number_of_word proc) (address_of_word address) ≡ Ok (events.Boot (record { 0 = get_or numbers 0 0 }) (get_or numbers 1 0))
-boot_by proc address None second numbers one two is = cc
-boot_by proc address (Some p) None numbers one two is = cc
-boot_by proc address (Some p) (Some a) numbers one two is =
-    let same : p ∷ a ∷ [] ≡ numbers = cc in
-    rw (one, wider (number_of address) a two, sym same) refl
-
-pub boot_meant : (numbers : List ℕ) → length numbers ≡ 2 → IsMeant kinds.Boot numbers (events.Boot (record { 0 = get_or numbers 0 0 }) (get_or numbers 1 0))
-boot_meant numbers two [] is = absurd (omega (arith, two, (numbered [] numbers is).count))
-boot_meant numbers two (proc ∷ []) is = absurd (omega (arith, two, (numbered (proc ∷ []) numbers is).count))
-boot_meant numbers two (proc ∷ address ∷ []) is = boots (proc ∷ address ∷ []) ∙ boot_by proc address (number_of_word proc) (number_of_word address) numbers refl refl is
-boot_meant numbers two (proc ∷ address ∷ word ∷ words) is = absurd (omega (arith, two, (numbered (proc ∷ address ∷ word ∷ words) numbers is).count))
+    pub put_last : word.is_last ≡ true → whole ≡ Some new
+    put_last last =
+        let line = first_line text in
+        let past : length line ≤ word.end = omega (arith, at_feed last) in
+        sym (no_more line new (words_from None word.end (drop word.end line)) whole behind (words_from-none line word.end None past refl))
 
 -- ---- a line and its keyword
-
--- a plain line has no carriage return at its end
-last_plain : (line : List ℕ) (k : ℕ) → list_all is_plain line ≡ true → (get_or line k 0 == 13) ≡ false
-last_plain [] k plain = refl
-last_plain (byte ∷ line) zero plain =
-    let first = (both (is_plain byte) (list_all is_plain line) plain).0 in
-    grind (arith, nat_tests)
-last_plain (byte ∷ line) (suc k) plain = last_plain line k (both (is_plain byte) (list_all is_plain line) plain).1
-
-pub plain_whole : (line : List ℕ) → list_all is_plain line ≡ true → without_return line ≡ line
-plain_whole line plain = rw (last_plain line (length line - 1) plain) refl
 
 -- a plain line that is a comment from its first byte on has no word
 pub no_words : (line : List ℕ) → 0 < length line → get_or line 0 0 ≡ 35 → list_all is_plain line ≡ true → word_texts line ≡ []
@@ -300,3 +307,21 @@ pub five_first : (line : List ℕ) (a b c d e : ℕ) → 5 ≤ length line → g
 five_first line a b c d e long one two three four five =
     four_first line a b c d (omega arith) one two three four
     ∙ ap (λ (rest : List ℕ). a ∷ b ∷ c ∷ d ∷ rest) (drop_more line 4 0 (omega arith) ∙ ap (λ byte. byte ∷ drop 5 line) five)
+
+-- a comment up to a line feed does nothing
+pub comment_means : (text : List ℕ) (feed : ℕ) (event : Event) → 0 < length text → get_or text 0 0 ≡ 35 → EndsPlain text 0 feed → event ≡ Pass → MeansPlain text feed event
+comment_means text feed event some sign ends is =
+    let line = first_line text in
+    let other : (get_or text 0 0 == 10) ≡ false = grind (arith, nat_tests) in
+    let on = byte_on text 0 (omega arith) some other in
+    record { ends = ends; means = ap words_meaning (no_words line on.0 (on.1 ∙ sign) ends.plain) ∙ rw is refl }
+
+-- numbers behind a keyword mean an event
+pub numbers_mean : (kind : Kind) (text : List ℕ) (from feed : ℕ) (numbers : List ℕ) (event : Event) → from ≡ length (keyword_of kind) + 1 → text ≡ keyword_of kind ++ 32 ∷ drop from text
+    → EndsPlain text from feed → numbers_of (words_after (first_line text) from) ≡ Some numbers → IsMeant kind numbers event → MeansPlain text feed event
+numbers_mean kind text from feed numbers event at is ends these meant =
+    let line = line_from kind text from at is in
+    record {
+      ends = record { found = ends.found; plain = line_plain kind (first_line text) from line ends.plain };
+      means = ap words_meaning (first_word kind (first_line text) from line ends.plain at) ∙ meant (words_after (first_line text) from) these;
+    }

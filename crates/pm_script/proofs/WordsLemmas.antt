@@ -1,5 +1,5 @@
 -- The first nine words of a line.
-use Rattle.std.proofs.Common.{◌≡◌, ◌≢◌, ℕ, ◌≤◌, ◌<◌, ◌+◌, ◌&&◌, Bool, true, false, arith, nat_le, drop, get_or, List, [], ◌∷◌, ◌++◌, length, take, None, Some, slice_get, refl, sym, ◌∙◌, ap}
+use Rattle.std.proofs.Common.{◌≡◌, ◌≢◌, ℕ, ◌≤◌, ◌<◌, ◌+◌, ◌&&◌, true, false, arith, nat_le, drop, get_or, List, [], ◌∷◌, ◌++◌, length, take, None, Some, slice_get, refl, sym, ◌∙◌, ap}
 use Rattle.std.proofs.Math.Seq.{take-append_seam}
 use Rattle.std.proofs.lemmas.List.{append-nil, at_drop_more, append_assoc, take_all}
 use Rattle.std.specs.List.{list_all}
@@ -8,7 +8,7 @@ use Rattle.pm_io.specs.Lines.{is_plain, without_return}
 use Rattle.pm_io.specs.Words.{is_blank, words, words_from}
 use Rattle.pm_base.proofs.Booleans.{both}
 use Rattle.pm_io.proofs.WordTexts.{word_within}
-use Rattle.pm_io.proofs.WordsLemmas.{words_from-begin, words_from-between, words_from-comment, words_from-end, words_from-none, words_from-on}
+use Rattle.pm_io.proofs.WordsLemmas.{words_from-begin, words_from-between, words_from-comment, words_from-end, words_from-on}
 
 pub words_is : (line : List ℕ) → words line ≡ words_from None 0 (without_return line)
 unfolding words
@@ -57,7 +57,8 @@ sign_is = refl
 
 -- one byte on in a text
 module _ (text : List ℕ) (at : ℕ) (within : at < length text) where
-  plain_step : is_plain (get_or text at 0) ≡ true → list_all is_plain (drop (at + 1) text) ≡ list_all is_plain (drop at text)
+  -- past a plain byte
+  pub plain_step : is_plain (get_or text at 0) ≡ true → list_all is_plain (drop (at + 1) text) ≡ list_all is_plain (drop at text)
   plain_step plain = sym (at_drop_more (list_all is_plain) text at 0 within ∙ rw plain refl)
 
   plain_here : list_all is_plain (drop at text) ≡ true → is_plain (get_or text at 0) ≡ true

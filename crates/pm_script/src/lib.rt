@@ -12,3 +12,4 @@ mod words;
 pub use laws::{each_kind_has_its_sentence, scripts_are_read};
 pub use meaning::{LineFault, parse_line, read_line};
 pub use script::SCRIPT_LIMIT;
+pub use short::read_first;

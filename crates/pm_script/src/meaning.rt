@@ -1,18 +1,15 @@
 //! What a line of a script means.
 
-ghost use Rattle.std.specs.Prelude.{◌≡◌, ◌≤◌, IsTrue, Ok, drop, length, true};
-ghost use Rattle.std.specs.List.{list_all};
-ghost use Rattle.pm_io.specs.Lines.{is_plain};
+ghost use Rattle.std.specs.Prelude.{◌≡◌, ◌≤◌, drop, length};
 ghost use Rattle.pm_io.specs.Words.{word_texts};
 ghost use Rattle.pm_script.specs.Forms.{row_of};
 ghost use Rattle.pm_script.specs.Meaning.{form_meaning, left, meaning, other_meaning, words_meaning};
 
 use crate::forms::{LineForm, form_of, leave_event};
 use crate::object_line::read_object;
-use crate::short::read_short;
 use crate::words::{LineWords, Places, first_places};
 use pm_base::Event;
-use pm_io::{TOO_LONG, is_plain, without_return};
+use pm_io::{TOO_LONG, without_return};
 
 /// Why a line of a script has no meaning. Where a line has several faults, the first of `Long`,
 /// `NotAscii`, `Unknown`, `Count` and `Number` is answered.
@@ -59,9 +56,6 @@ pub fn read_line(line: &[u8], event: &mut Event) -> Result<(), LineFault>
     if line.len() >= TOO_LONG {
         return Err(LineFault::Long);
     }
-    if read_short(line, event) || read_comment(line, event) {
-        return Ok(());
-    }
     read_any(line, event)
 }
 
@@ -79,25 +73,16 @@ fn read_any(line: &[u8], event: &mut Event) -> Result<(), LineFault>
     read_words(&LineWords::of(line, &places), event)
 }
 
-/// Leaves what a line means that is a comment from its first byte on. The answer is whether it is one with plain bytes
-/// alone: if it isn't, the event may be any.
-fn read_comment(line: &[u8], event: &mut Event) -> bool
-    ensures plain { IsTrue result → list_all is_plain line.now ≡ true }
-    ensures means { IsTrue result → words_meaning (word_texts line.now) ≡ Ok event.new }
-{
-    match line {
-        [b'#', ..] if is_plain(line) => read_nothing(event).is_ok(),
-        _ => false,
-    }
-}
-
 /// Leaves what a line with these words means. Its first word says which form it has.
 fn read_words(words: &LineWords, event: &mut Event) -> Result<(), LineFault>
     requires { length words.now ≤ 255 }
     ensures { left result event.new ≡ words_meaning (word_texts words.now) }
 {
     match words.text_at(0) {
-        None => read_nothing(event),
+        None => {
+            leave_nothing(event);
+            Ok(())
+        }
         Some(keyword) => match form_of(keyword) {
             None => read_other(keyword, words, event),
             Some(form) => read_form(form, words, event),
@@ -106,14 +91,13 @@ fn read_words(words: &LineWords, event: &mut Event) -> Result<(), LineFault>
 }
 
 /// Leaves the event in which nothing happens, if it isn't there already.
-fn read_nothing(event: &mut Event) -> Result<(), LineFault>
-    ensures { left result event.new ≡ Ok Event.Pass }
+pub(crate) fn leave_nothing(event: &mut Event)
+    ensures { event.new ≡ Event.Pass }
 {
     match event {
         Event::Pass => {}
         _ => *event = Event::Pass,
     }
-    Ok(())
 }
 
 /// Leaves what a line with these words means, the first of which is no form's.

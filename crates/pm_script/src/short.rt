@@ -1,19 +1,20 @@
-//! Lines of a keyword and short decimal numbers between single blanks, as most lines of a script are: each byte of such a
-//! line is looked at once. Any other line is left to the general way.
+//! Lines of a keyword and short decimal numbers between single blanks, as most lines of a script are, and comments: each
+//! byte of such a line is looked at once, and so its line feed is found. Any other line is left to the general way.
 
-ghost use Rattle.std.specs.Prelude.{◌≡◌, ◌≢◌, ◌+◌, ◌*◌, ◌^◌, ◌<◌, ◌≤◌, ◌&&◌, ◌∷◌, ◌++◌, [], true, drop, get_or, length, map, nat_le, unwrap_or, IfSome, IsTrue, None, Some, Ok};
+ghost use Rattle.std.specs.Prelude.{◌≡◌, ◌≢◌, ◌+◌, ◌*◌, ◌^◌, ◌<◌, ◌≤◌, ◌==◌, ◌&&◌, ◌∷◌, ◌++◌, [], true, drop, get_or, length, nat_le, position, take, IfSome, IsTrue, Some, Ok};
 ghost use Rattle.std.specs.Char.{is_digit, digit_value};
-ghost use Rattle.std.specs.List.{list_all};
-ghost use Rattle.pm_io.specs.Lines.{is_plain};
-ghost use Rattle.pm_io.specs.Words.{text_between, words_from, word_texts};
-ghost use Rattle.pm_script.specs.Meaning.{words_meaning};
+ghost use Rattle.pm_script.specs.Meaning.{meaning};
 ghost use Rattle.pm_script.specs.ObjectLine.{numbers_of};
-ghost use Rattle.pm_script.specs.Sentences.{number_of_word};
-ghost use Rattle.pm_script.specs.Short.{IsMeant, keyword_of, message_of_numbers};
+ghost use Rattle.pm_script.specs.Short.{EndsPlain, IsMeant, MeansPlain, StandsAt, first_line, keyword_of, message_of_numbers, words_after};
 
 use crate::forms::Kind;
+use crate::meaning::leave_nothing;
 use pm_base::{Event, Message, NodeId};
+use pm_io::TOO_LONG;
 use std::marker::Model;
+
+/// A number below it has room for one more decimal digit in 32 bits.
+const SHORT_END: u32 = 400_000_000;
 
 /// The numbers of a short line, at most seven. Contracts see those that were put.
 #[derive(Drop)]
@@ -69,26 +70,62 @@ impl Numbers {
     }
 }
 
-/// Leaves what a short line means. The answer is whether it is a short line: if it isn't, the event may be any.
-pub(crate) fn read_short(line: &[u8], event: &mut Event) -> bool
-    ensures plain { IsTrue result → list_all is_plain line.now ≡ true }
-    ensures means { IsTrue result → words_meaning (word_texts line.now) ≡ Ok event.new }
+/// A short number, the place of the byte behind it, and whether that is a line feed: else it is a blank.
+#[derive(Clone, Copy)]
+struct ShortNumber {
+    number: u32,
+    end: usize,
+    is_last: bool,
+}
+
+/// Leaves what the first line of a text means, if it is a short line or a comment that ends at a line feed. The answer is
+/// the place of that line feed. Where it is none the event may be any, and the line may still have a meaning.
+#[inline(always)]
+pub fn read_first(text: &[u8], event: &mut Event) -> Option<usize>
+    ensures feed { IfSome result (λ feed. position (λ byte. byte == 10) text.now ≡ Some feed) }
+    ensures means { IfSome result (λ feed. meaning (take feed text.now) ≡ Ok event.new) }
 {
-    match kind_of(line) {
-        Some((kind, from)) => read_numbers(kind, line, from, event),
-        None => false,
+    let feed = read_short(text, event)?;
+    if feed < TOO_LONG { Some(feed) } else { None }
+}
+
+/// Leaves what the first line of a text means, if it is a short line or a comment, of any length.
+#[inline(always)]
+fn read_short(text: &[u8], event: &mut Event) -> Option<usize>
+    ensures { IfSome result (λ feed. MeansPlain text.now feed event.new) }
+{
+    if is_message(text) {
+        read_numbers(Kind::Ipi, text, 4, event)
+    } else {
+        read_other(text, event)
     }
 }
 
-/// The kind of a line that begins with its keyword and a blank, and where its arguments begin. The kinds whose lines are
-/// most are known here.
-fn kind_of(line: &[u8]) -> Option<(Kind, usize)>
-    ensures within { IfSome result (λ found. found.1 ≤ length line.now) }
-    ensures from { IfSome result (λ found. found.1 ≡ length (keyword_of found.0) + 1) }
-    ensures line { IfSome result (λ found. line.now ≡ keyword_of found.0 ++ 32 ∷ drop found.1 line.now) }
+/// Whether a text begins with the keyword of a message and a blank. Most lines are messages.
+fn is_message(text: &[u8]) -> bool
+    ensures { IsTrue result → text.now ≡ keyword_of Kind.Ipi ++ 32 ∷ drop 4 text.now }
 {
-    match line {
-        [b'i', b'p', b'i', b' ', _, ..] => Some((Kind::Ipi, 4)),
+    matches!(text, [b'i', b'p', b'i', b' ', ..])
+}
+
+/// Leaves what the first line of a text means, if it is a short line of another kind or a comment.
+#[inline(never)]
+fn read_other(text: &[u8], event: &mut Event) -> Option<usize>
+    ensures { IfSome result (λ feed. MeansPlain text.now feed event.new) }
+{
+    match kind_of(text) {
+        Some((kind, from)) => read_numbers(kind, text, from, event),
+        None => read_comment(text, event),
+    }
+}
+
+/// The kind of a line that begins with its keyword and a blank, and where its arguments begin. The kinds that are most
+/// beside messages are known here.
+fn kind_of(text: &[u8]) -> Option<(Kind, usize)>
+    ensures from { IfSome result (λ found. found.1 ≡ length (keyword_of found.0) + 1) }
+    ensures text { IfSome result (λ found. text.now ≡ keyword_of found.0 ++ 32 ∷ drop found.1 text.now) }
+{
+    match text {
         [b'w', b'f', b'i', b' ', _, ..] => Some((Kind::Wfi, 4)),
         [b'i', b'r', b'q', b' ', _, ..] => Some((Kind::Irq, 4)),
         [b'g', b'i', b'c', b' ', _, ..] => Some((Kind::Gic, 4)),
@@ -98,62 +135,70 @@ fn kind_of(line: &[u8]) -> Option<(Kind, usize)>
     }
 }
 
-/// Leaves what a line of a kind means whose arguments stand from a place on, if they are short numbers.
-fn read_numbers(kind: Kind, line: &[u8], from: usize, event: &mut Event) -> bool
-    requires { from ≤ length line.now }
-    ensures plain { IsTrue result → list_all is_plain (drop from line.now) ≡ true }
-    ensures means { IsTrue result
-        → words_meaning (keyword_of kind ∷ map (text_between line.now) (words_from None from (drop from line.now))) ≡ Ok event.new }
+/// Leaves what the first line of a text means that begins with the keyword of a kind and a blank, if short numbers
+/// follow from there on up to a line feed.
+#[inline(always)]
+fn read_numbers(kind: Kind, text: &[u8], from: usize, event: &mut Event) -> Option<usize>
+    requires from { from ≡ length (keyword_of kind) + 1 }
+    requires text { text.now ≡ keyword_of kind ++ 32 ∷ drop from text.now }
+    ensures { IfSome result (λ feed. MeansPlain text.now feed event.new) }
 {
     let mut numbers = Numbers::new();
-    find_numbers(line, from, &mut numbers) && leave(kind, &numbers, event)
+    let feed = find_numbers(text, from, &mut numbers)?;
+    if leave(kind, &numbers, event) {
+        Some(feed)
+    } else {
+        None
+    }
 }
 
-/// Finds the numbers that stand in a line from a place on. The answer is whether they are one to seven short ones.
-fn find_numbers(line: &[u8], from: usize, numbers: &mut Numbers) -> bool
-    requires within { from ≤ length line.now }
+/// Finds the numbers that stand in a text from a place on up to the next line feed, if they are one to seven short ones.
+/// The answer is the place of that line feed.
+#[inline(always)]
+fn find_numbers(text: &[u8], from: usize, numbers: &mut Numbers) -> Option<usize>
+    requires within { from ≤ length (first_line text.now) }
     requires none { numbers.old ≡ [] }
-    ensures plain { IsTrue result → list_all is_plain (drop from line.now) ≡ true }
-    ensures numbers { IsTrue result
-        → numbers_of (map (text_between line.now) (words_from None from (drop from line.now))) ≡ Some numbers.new }
+    ensures ends { IfSome result (λ feed. EndsPlain text.now from feed) }
+    ensures numbers { IfSome result (λ feed. numbers_of (words_after (first_line text.now) from) ≡ Some numbers.new) }
 {
     let mut at = from;
     'words: for k in 0..7_usize {
-        let Some((number, blank)) = short_number(line, at) else {
-            return false;
-        };
-        numbers.put(k, number);
-        let Some(end) = blank else {
-            return true;
-        };
-        at = end + 1;
+        let word = short_number(text, at)?;
+        numbers.put(k, word.number);
+        if word.is_last {
+            return Some(word.end);
+        }
+        at = word.end + 1;
     }
-    false
+    None
 }
 
-/// The number of the decimal digits that stand in a line from a place on up to a blank or its end, and the place of that
-/// blank.
-fn short_number(line: &[u8], from: usize) -> Option<(u32, Option<usize>)>
-    requires { from ≤ length line.now }
-    ensures blank { IfSome result (λ found. IfSome found.1 (λ at. (at < length line.now) × (get_or line.now at 0 ≡ 32))) }
-    ensures plain { IfSome result (λ found. list_all is_plain (drop (unwrap_or found.1 (length line.now)) line.now)
-        ≡ list_all is_plain (drop from line.now)) }
-    ensures word { IfSome result (λ found. words_from None from (drop from line.now)
-        ≡ (from, unwrap_or found.1 (length line.now)) ∷ words_from None (unwrap_or found.1 (length line.now)) (drop (unwrap_or found.1 (length line.now)) line.now)) }
-    ensures number { IfSome result
-        (λ found. number_of_word (text_between line.now (from, unwrap_or found.1 (length line.now))) ≡ Some found.0) }
+/// The number of the decimal digits that stand in a text from a place on, up to a blank or a line feed.
+#[inline(always)]
+fn short_number(text: &[u8], from: usize) -> Option<ShortNumber>
+    requires { from ≤ length (first_line text.now) }
+    ensures { IfSome result (λ word. StandsAt text.now from word) }
 {
-    if from == line.len() {
+    if from >= text.len() {
         return None;
     }
-    let mut value = with_digit(0, line[from])?;
-    'digits: for at in from + 1..line.len() {
-        if line[at] == b' ' {
-            return Some((value, Some(at)));
+    let mut number = with_digit(0, text[from])?;
+    'digits: for at in from + 1..text.len() {
+        match text[at] {
+            b' ' => return Some(ShortNumber {
+                number,
+                end: at,
+                is_last: false,
+            }),
+            b'\n' => return Some(ShortNumber {
+                number,
+                end: at,
+                is_last: true,
+            }),
+            byte => number = with_digit(number, byte)?,
         }
-        value = with_digit(value, line[at])?;
     }
-    Some((value, None))
+    None
 }
 
 /// A number with one more digit, if that is one and there is room for it.
@@ -165,13 +210,55 @@ fn with_digit(value: u32, byte: u8) -> Option<u32>
     ensures fits { IfSome result (λ more. more < 2 ^ 32) }
 {
     match byte {
-        b'0'..=b'9' if value < 400_000_000 => Some(value * 10 + u32::from(byte - b'0')),
+        b'0'..=b'9' if value < SHORT_END => Some(value * 10 + u32::from(byte - b'0')),
         _ => None,
     }
 }
 
+/// Leaves the event in which nothing happens, if a text begins with a comment up to a line feed. The answer is the place
+/// of that line feed.
+fn read_comment(text: &[u8], event: &mut Event) -> Option<usize>
+    ensures { IfSome result (λ feed. MeansPlain text.now feed event.new) }
+{
+    match text {
+        [b'#', ..] => {
+            let feed = plain_end(text)?;
+            leave_nothing(event);
+            Some(feed)
+        }
+        _ => None,
+    }
+}
+
+/// The place of the first line feed of a text, if all bytes before it are printable ASCII.
+fn plain_end(text: &[u8]) -> Option<usize>
+    ensures { IfSome result (λ feed. EndsPlain text.now 0 feed) }
+{
+    'bytes: for at in 0..text.len() {
+        if !is_printable(text[at]) {
+            return feed_at(text[at], at);
+        }
+    }
+    None
+}
+
+/// Whether a byte is printable ASCII.
+fn is_printable(byte: u8) -> bool
+    ensures { result ≡ (nat_le 32 byte && nat_le byte 126) }
+{
+    matches!(byte, b' '..=b'~')
+}
+
+/// The place of a byte, if it is a line feed.
+fn feed_at(byte: u8, at: usize) -> Option<usize>
+    ensures { IfSome result (λ feed. (byte ≡ 10) × (feed ≡ at)) }
+{
+    if byte == b'\n' { Some(at) } else { None }
+}
+
 /// Leaves what a line of a kind means with these numbers after its keyword. The answer is whether it has as many as its
 /// kind takes.
+#[inline(always)]
 fn leave(kind: Kind, numbers: &Numbers, event: &mut Event) -> bool
     ensures { IsTrue result → IsMeant kind numbers.now event.new }
 {

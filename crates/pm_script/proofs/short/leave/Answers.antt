@@ -1,6 +1,6 @@
 -- Each kind takes as many numbers as its sentence says.
 use Rattle.std.proofs.Common.{arith, sym, ◌∙◌}
-use Rattle.pm_script.proofs.ShortLemmas.{boot_meant, interrupt_meant, message_meant, tick_meant, wait_meant, wake_meant}
+use Rattle.pm_script.proofs.NumbersMeanLemmas.{boot_meant, interrupt_meant, message_meant, tick_meant, wait_meant, wake_meant}
 use Rattle.pm_script.proofs.short.leave.Goals as goal
 
 pub returns-in-Ipi-2-to-7 : goal.returns-in-Ipi-2-to-7
