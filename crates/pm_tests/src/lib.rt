@@ -1,4 +1,4 @@
-//! Tests of inputs, lines, objects, texts, devices, messages and boxes, each a table of cases and one loop over it.
+//! Tests of inputs, objects, texts, devices, messages and boxes, each a table of cases and one loop over it.
 #![tactic(auto)]
 
 #[cfg(test)]
@@ -10,8 +10,6 @@ mod devices;
 #[cfg(test)]
 mod inputs;
 #[cfg(test)]
-mod lines;
-#[cfg(test)]
 mod mail;
 #[cfg(test)]
 mod objects;
@@ -19,5 +17,3 @@ mod objects;
 mod rows;
 #[cfg(test)]
 mod texts;
-#[cfg(test)]
-mod ticks;

@@ -1,5 +1,16 @@
-//! Tests of the lines that are taken of an input, one after another: tables of inputs with what a reader answers.
+//! Tests of lines, each a table of cases and one loop over it: how they are taken of an input, their words and numbers, and what a
+//! line of a script means.
 #![tactic(auto)]
 
 #[cfg(test)]
+mod faults;
+#[cfg(test)]
+mod lines;
+#[cfg(test)]
 mod reader;
+#[cfg(test)]
+mod rows;
+#[cfg(test)]
+mod ticks;
+#[cfg(test)]
+mod words;
