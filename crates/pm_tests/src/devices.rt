@@ -30,7 +30,7 @@ fn line(number: u32) -> Unit {
 
 /// What is done to a device: a command on a node or a reset line with its value and whether it is
 /// taken, or a node that is broken or mended.
-#[derive(Clone, Copy, Debug)]
+#[derive(Clone, Copy)]
 enum Act {
     Node(u32, u32, bool),
     Line(u32, u32, bool),

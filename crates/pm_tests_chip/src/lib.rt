@@ -1,12 +1,8 @@
-//! Tests of the table of the chip, of what an object permits on it, of who has its processors, and of the reach of its masters.
+//! Tests of the table of the chip, of the rules of a topology, and of the reach of masters.
 #![tactic(auto)]
 
 #[cfg(test)]
 mod chip;
-#[cfg(test)]
-mod permits;
-#[cfg(test)]
-mod procs;
 #[cfg(test)]
 mod reach;
 #[cfg(test)]

@@ -1,14 +1,8 @@
-//! What an object permits to each master: each permission over an object that gives it, beside the nearest one
-//! that doesn't.
+//! Each permission over an object that gives it, beside the nearest one that doesn't.
 
-use crate::chip::chip;
-use crate::rows::{all_right, boxed};
-use pm_base::{LineId, NodeId};
-use pm_grants::Grants;
+use crate::rows::boxed;
 use pm_object::Object;
 use pm_objtext::build;
-use pm_perms::{may_configure, may_force, may_reset, may_shut, may_suspend, may_use, may_wake};
-use pm_topology::{Kind, Topology};
 use std::alloc::Global;
 use std::test::Fail;
 
@@ -21,7 +15,7 @@ const MASTERS: &str = "header\nsection masters\nmaster 1 0x1 0 0 0\nmaster 7 0x1
 /// What a master wants to do: to use a slave, to suspend or wake a master, to force a node, to reset by a line,
 /// to shut down by a subtype, or to configure.
 #[derive(Clone, Copy)]
-enum Deed {
+pub(crate) enum Deed {
     Use(u32, u32),
     Suspend(u32, u32),
     Wake(u32, u32),
@@ -32,7 +26,7 @@ enum Deed {
 }
 
 /// How the text of an object goes on, what a master wants to do, and whether it may.
-type Permission = (&'static str, Deed, bool);
+pub(crate) type Permission = (&'static str, Deed, bool);
 
 /// The section of slaves.
 const USES: &[Permission] = &[
@@ -333,43 +327,8 @@ const CONFIGURATIONS: &[Permission] = &[
     ),
 ];
 
-fn is_permitted(object: &Object, chip: &Topology, deed: Deed) -> bool {
-    match deed {
-        Deed::Use(m, slave) => may_use(object, chip, NodeId(m), NodeId(slave)),
-        Deed::Suspend(m, other) => may_suspend(object, chip, NodeId(m), NodeId(other)),
-        Deed::Wake(m, other) => may_wake(object, chip, NodeId(m), NodeId(other)),
-        Deed::Force(m, node) => may_force(object, chip, NodeId(m), NodeId(node)),
-        Deed::Reset(m, line) => may_reset(object, chip, NodeId(m), LineId(line)),
-        Deed::Shut(m, subtype) => may_shut(object, chip, NodeId(m), subtype),
-        Deed::Configure(m) => may_configure(object, chip, NodeId(m)),
-    }
-}
-
-/// The object of a text that begins and goes on like this.
-pub(crate) fn object_of(alloc: Global, head: &str, rest: &str) -> Result<Box<Object>, Fail> {
-    let mut text = Vec::from_slice(alloc, head.as_bytes())?;
-    text.extend_from_slice(rest.as_bytes())?;
-    let object = build(alloc, &text)?;
-    Ok(boxed(alloc, object)?)
-}
-
-fn wrong_permission(
-    alloc: Global,
-    chip: &Topology,
-    head: &str,
-    rows: &[Permission],
-) -> Result<Option<usize>, Fail> {
-    for (place, (rest, deed, want)) in rows.iter().enumerate() {
-        let object = object_of(alloc, head, rest)?;
-        if is_permitted(&object, chip, *deed) != *want {
-            return Ok(Some(place));
-        }
-    }
-    Ok(None)
-}
-
 /// How the objects of each list begin, and the list.
-static LISTS: [(&str, &[Permission]); 7] = [
+pub(crate) static LISTS: [(&str, &[Permission]); 7] = [
     (MASTERS, USES),
     (HEAD, SUSPENDS),
     (HEAD, WAKES),
@@ -379,74 +338,10 @@ static LISTS: [(&str, &[Permission]); 7] = [
     (MASTERS, CONFIGURATIONS),
 ];
 
-#[test]
-fn each_permission_is_given_by_its_own_bit(rt: HostRuntime) -> Result<(), Fail> {
-    let chip = chip(rt.alloc())?;
-    for (head, rows) in LISTS.iter() {
-        all_right(&rt, wrong_permission(rt.alloc(), &chip, head, rows)?);
-    }
-    Ok(())
-}
-
-fn place_of(object: &Object, master: u32) -> Option<usize> {
-    object
-        .masters
-        .as_slice()
-        .iter()
-        .position(|entry| entry.node == master)
-}
-
-fn slave_of(chip: &Topology, node: u32) -> Option<usize> {
-    match chip.kind(NodeId(node)) {
-        Kind::Slave(slave) => Some(slave),
-        Kind::Proc(_) | Kind::Power(_) | Kind::Unknown => None,
-    }
-}
-
-/// The same by places: nothing where one of them isn't there.
-fn looked_up(grants: &Grants, object: &Object, chip: &Topology, deed: Deed) -> Option<bool> {
-    match deed {
-        Deed::Use(m, slave) => {
-            Some(grants.permits_use(place_of(object, m)?, slave_of(chip, slave)?))
-        }
-        Deed::Suspend(m, other) => {
-            Some(grants.permits_suspend(place_of(object, m)?, place_of(object, other)?))
-        }
-        Deed::Wake(m, other) => {
-            Some(grants.permits_wake(place_of(object, m)?, place_of(object, other)?))
-        }
-        Deed::Force(m, node) => {
-            Some(grants.permits_force(place_of(object, m)?, chip.kind(NodeId(node))))
-        }
-        Deed::Reset(m, line) => {
-            Some(grants.permits_reset(place_of(object, m)?, chip.line_place(LineId(line))?))
-        }
-        Deed::Shut(m, subtype) => Some(grants.permits_shut(place_of(object, m)?, subtype)),
-        Deed::Configure(m) => Some(grants.permits_configure(place_of(object, m)?)),
-    }
-}
-
-fn wrong_grant(
-    alloc: Global,
-    chip: &Topology,
-    head: &str,
-    rows: &[Permission],
-) -> Result<Option<usize>, Fail> {
-    for (place, (rest, deed, want)) in rows.iter().enumerate() {
-        let object = object_of(alloc, head, rest)?;
-        let grants = boxed(alloc, Grants::load(alloc, &object, chip)?)?;
-        if looked_up(&grants, &object, chip, *deed).unwrap_or(false) != *want {
-            return Ok(Some(place));
-        }
-    }
-    Ok(None)
-}
-
-#[test]
-fn each_permission_is_looked_up_by_places(rt: HostRuntime) -> Result<(), Fail> {
-    let chip = chip(rt.alloc())?;
-    for (head, rows) in LISTS.iter() {
-        all_right(&rt, wrong_grant(rt.alloc(), &chip, head, rows)?);
-    }
-    Ok(())
+/// The object of a text that begins and goes on like this.
+pub(crate) fn object_of(alloc: Global, head: &str, rest: &str) -> Result<Box<Object>, Fail> {
+    let mut text = Vec::from_slice(alloc, head.as_bytes())?;
+    text.extend_from_slice(rest.as_bytes())?;
+    let object = build(alloc, &text)?;
+    Ok(boxed(alloc, object)?)
 }

@@ -1,7 +1,7 @@
 //! The modes of processors and of the masters that have them, and to which master a processor belongs.
 
 use crate::chip::chip;
-use crate::permits::{HEAD, object_of};
+use crate::permissions::{HEAD, object_of};
 use crate::rows::{all_right, boxed, same};
 use pm_base::{List, Mode, NodeId};
 use pm_perms::owner_of;
