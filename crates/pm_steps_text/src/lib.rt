@@ -3,7 +3,11 @@
 #![tactic(auto)]
 
 #[cfg(test)]
+mod faults;
+#[cfg(test)]
 mod notes;
+#[cfg(test)]
+mod notices;
 #[cfg(test)]
 mod rows;
 #[cfg(test)]

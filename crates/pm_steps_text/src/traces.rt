@@ -1,21 +1,16 @@
-//! The lines of output of a step, and the line and the exit of a fault.
+//! The lines of output of a step.
 
 use crate::rows::all_right;
-use pm_base::{BoundedList, Command, Exit, LineId, NoMemory, NodeId, Unit};
-use pm_core::{Answer, Callback, Done, Late, Outbox, Start};
+use pm_base::{BoundedList, Command, LineId, NoMemory, NodeId, Unit};
+use pm_core::{Answer, Done, Outbox, Start};
 use pm_ipi::Response;
-use pm_object::{ObjectCause, ObjectFault};
-use pm_objtext::{TextCause, TextFault};
-use pm_script::LineFault;
-use pm_topofile::{TopoTextCause, TopoTextFault};
-use pm_topology::{TopoCause, TopoFault};
-use pm_trace::{Fault, TextLine, entries, entry, exit, write_fault};
+use pm_trace::{TextLine, entries, entry};
 use std::alloc::Global;
 use std::test::Fail;
 
 /// An outbox of a step with at most one command and one start, and room for two late replies and two
 /// callbacks.
-fn outbox(
+pub(crate) fn outbox(
     alloc: Global,
     done: Option<Done>,
     start: Option<Start>,
@@ -41,7 +36,7 @@ fn outbox(
 }
 
 /// The lines of a step with this number.
-fn text_of(alloc: Global, n: u32, out: &Outbox) -> Result<Vec<u8>, Fail> {
+pub(crate) fn text_of(alloc: Global, n: u32, out: &Outbox) -> Result<Vec<u8>, Fail> {
     let mut text = Vec::new(alloc);
     let mut line = TextLine::new();
     for k in 0..entries(out, &out.answer) {
@@ -129,7 +124,7 @@ fn each_answer_is_its_line(rt: HostRuntime) -> Result<(), Fail> {
     Ok(())
 }
 
-const DROP: Answer = Answer::Drop { master: NodeId(8) };
+pub(crate) const DROP: Answer = Answer::Drop { master: NodeId(8) };
 
 /// A step's number, its command with the unit, the value before it, the value and whether it was taken,
 /// its answer, and its lines.
@@ -254,7 +249,7 @@ fn each_start_is_its_line(rt: HostRuntime) -> Result<(), Fail> {
     Ok(())
 }
 
-const COMMAND: Done = Done {
+pub(crate) const COMMAND: Done = Done {
     command: Command {
         unit: Unit::Node(NodeId(7)),
         value: 1,
@@ -263,7 +258,7 @@ const COMMAND: Done = Done {
     ok: true,
 };
 
-const START: Start = Start {
+pub(crate) const START: Start = Start {
     proc: NodeId(7),
     address: 16,
 };
@@ -273,237 +268,4 @@ fn a_start_stands_between_the_commands_and_the_answer(rt: HostRuntime) -> Result
     let text = "3 set 7 0 1\n3 run 7 16\n3 drop 8\n";
     assert!(rt; writes(rt.alloc(), 3, Some(COMMAND), Some(START), DROP, text)?);
     Ok(())
-}
-
-const LATE: Late = Late {
-    master: NodeId(1),
-    status: 2006,
-};
-
-const GREATEST: u32 = u32::MAX;
-
-/// A callback all of whose words are as long as they can be.
-const CALLBACK: Callback = Callback {
-    master: NodeId(GREATEST),
-    id: GREATEST,
-    args: [GREATEST; 4],
-};
-
-/// A step's number, its late replies and callbacks where nothing else is written, and the lines.
-static NOTICES: [(u32, Option<Late>, Option<Callback>, &str); 4] = [
-    (6, Some(LATE), None, "6 reply 1 2006 0 0 0\n"),
-    (
-        3,
-        None,
-        Some(Callback {
-            master: NodeId(7),
-            id: 30,
-            args: [201, 50, 0, 100],
-        }),
-        "3 call 7 30 201 50 0 100\n",
-    ),
-    (
-        GREATEST,
-        None,
-        Some(CALLBACK),
-        "4294967295 call 4294967295 4294967295 4294967295 4294967295 4294967295 4294967295\n",
-    ),
-    (
-        GREATEST,
-        Some(Late {
-            master: NodeId(GREATEST),
-            status: GREATEST,
-        }),
-        None,
-        "4294967295 reply 4294967295 4294967295 0 0 0\n",
-    ),
-];
-
-/// Whether the lines of a step with these notices alone are this text.
-fn tells(
-    alloc: Global,
-    n: u32,
-    late: Option<Late>,
-    callback: Option<Callback>,
-    text: &str,
-) -> Result<bool, Fail> {
-    let mut out = outbox(alloc, None, None, Answer::Silent)?;
-    out.late = list_of(alloc, late)?;
-    out.callbacks = list_of(alloc, callback)?;
-    Ok(text_of(alloc, n, &out)?.as_slice() == text.as_bytes())
-}
-
-/// A list of one or none.
-fn list_of<T: Copy + Drop>(alloc: Global, item: Option<T>) -> Result<BoundedList<T>, NoMemory> {
-    let mut list = BoundedList::with_room(alloc, 1)?;
-    if let Some(item) = item {
-        list.push(item);
-    }
-    Ok(list)
-}
-
-fn wrong_notice(alloc: Global) -> Result<Option<usize>, Fail> {
-    for (place, (n, late, callback, text)) in NOTICES.iter().enumerate() {
-        if !tells(alloc, *n, *late, *callback, text)? {
-            return Ok(Some(place));
-        }
-    }
-    Ok(None)
-}
-
-#[test]
-fn each_late_reply_and_each_callback_is_its_line(rt: HostRuntime) -> Result<(), Fail> {
-    all_right(&rt, wrong_notice(rt.alloc())?);
-    Ok(())
-}
-
-/// Two late replies.
-fn replies(alloc: Global) -> Result<BoundedList<Late>, NoMemory> {
-    let mut late = BoundedList::with_room(alloc, 2)?;
-    late.push(LATE);
-    late.push(Late {
-        master: NodeId(7),
-        status: 0,
-    });
-    Ok(late)
-}
-
-/// Two callbacks, by which a master hears that its request has ended and another is asked to suspend.
-fn callbacks(alloc: Global) -> Result<BoundedList<Callback>, NoMemory> {
-    let mut calls = BoundedList::with_room(alloc, 2)?;
-    calls.push(Callback {
-        master: NodeId(1),
-        id: 31,
-        args: [7, 2005, 1, 0],
-    });
-    calls.push(Callback {
-        master: NodeId(7),
-        id: 30,
-        args: [201, 50, 0, 100],
-    });
-    Ok(calls)
-}
-
-/// The lines of a step with all that it can write.
-static LINES: [&str; 7] = [
-    "3 set 7 0 1\n",
-    "3 run 7 16\n",
-    "3 reply 1 2006 0 0 0\n",
-    "3 reply 7 0 0 0 0\n",
-    "3 call 1 31 7 2005 1 0\n",
-    "3 call 7 30 201 50 0 100\n",
-    "3 drop 8\n",
-];
-
-/// The place of the first of those lines that a step doesn't write there.
-fn wrong_line(out: &Outbox) -> Option<usize> {
-    let mut line = TextLine::new();
-    for (k, text) in LINES.iter().enumerate() {
-        if k >= entries(out, &out.answer) {
-            return Some(k);
-        }
-        entry(3, out, &out.answer, k, &mut line);
-        if line.as_slice() != text.as_bytes() {
-            return Some(k);
-        }
-    }
-    None
-}
-
-#[test]
-fn late_replies_and_callbacks_stand_between_the_starts_and_the_answer(
-    rt: HostRuntime,
-) -> Result<(), Fail> {
-    let mut out = outbox(rt.alloc(), Some(COMMAND), Some(START), DROP)?;
-    out.late = replies(rt.alloc())?;
-    out.callbacks = callbacks(rt.alloc())?;
-    assert_eq!(rt; entries(&out, &out.answer), 7);
-    all_right(&rt, wrong_line(&out));
-    Ok(())
-}
-
-/// A fault, its line and the exit.
-static FAULTS: [(Fault, &str, Exit); 14] = [
-    (Fault::Usage, "fault usage\n", Exit::Usage),
-    (
-        Fault::Object(ObjectFault {
-            cause: ObjectCause::Trailing,
-            offset: 23,
-        }),
-        "fault object 12 23\n",
-        Exit::BadObject,
-    ),
-    (
-        Fault::Text(TextFault {
-            line: 1,
-            cause: TextCause::Place,
-        }),
-        "fault text 1 2\n",
-        Exit::BadText,
-    ),
-    (
-        Fault::TopologyText(TopoTextFault {
-            line: 4,
-            cause: TopoTextCause::Parent,
-        }),
-        "fault text 4 3\n",
-        Exit::BadText,
-    ),
-    (
-        Fault::Topology(TopoFault {
-            cause: TopoCause::NoMaster,
-            place: 3,
-        }),
-        "fault topology 8 3\n",
-        Exit::BadText,
-    ),
-    (
-        Fault::Line(9, LineFault::Unknown),
-        "fault line 9 1\n",
-        Exit::BadLine,
-    ),
-    (
-        Fault::Line(9, LineFault::Number),
-        "fault line 9 2\n",
-        Exit::BadLine,
-    ),
-    (
-        Fault::Line(9, LineFault::Count),
-        "fault line 9 3\n",
-        Exit::BadLine,
-    ),
-    (
-        Fault::Line(9, LineFault::Long),
-        "fault line 9 4\n",
-        Exit::BadLine,
-    ),
-    (
-        Fault::Line(9, LineFault::NotAscii),
-        "fault line 9 5\n",
-        Exit::BadLine,
-    ),
-    (
-        Fault::Line(16_777_216, LineFault::Unknown),
-        "fault line 16777216 1\n",
-        Exit::BadLine,
-    ),
-    (Fault::Read, "fault read\n", Exit::ReadFault),
-    (Fault::Memory, "fault memory\n", Exit::Memory),
-    (Fault::Size, "fault size\n", Exit::TooLarge),
-];
-
-fn wrong_fault() -> Option<usize> {
-    let mut line = TextLine::new();
-    for (place, (fault, text, wanted)) in FAULTS.iter().enumerate() {
-        write_fault(*fault, &mut line);
-        if line.as_slice() != text.as_bytes() || exit(*fault) != *wanted {
-            return Some(place);
-        }
-    }
-    None
-}
-
-#[test]
-fn each_fault_is_its_line_and_its_exit(rt: HostRuntime) {
-    all_right(&rt, wrong_fault());
 }

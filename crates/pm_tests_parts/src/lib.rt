@@ -10,6 +10,8 @@ mod domains;
 #[cfg(test)]
 mod notify;
 #[cfg(test)]
+mod reloads;
+#[cfg(test)]
 mod requests;
 #[cfg(test)]
 mod requirements;
