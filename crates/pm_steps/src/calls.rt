@@ -3,7 +3,7 @@
 use crate::rows::all_right;
 use pm_base::Event;
 use pm_core::Answer;
-use pm_testing::{Case, Want, settled, wrong_answer};
+use pm_testing::{Case, Want, settled, wrong_answer, wrong_answer_over};
 use std::test::Fail;
 
 /// The masters 1 and 7, both of which may use slaves 11 and 12, and only the first one slave 33. Slave 12 has one user at a time.
@@ -63,8 +63,8 @@ static CHECKS: [Case; 33] = [
 
 #[test]
 fn the_first_check_that_fails_decides(rt: HostRuntime) -> Result<(), Fail> {
-    let mut desk = settled(rt.alloc(), &ONE_USER)?;
-    all_right(&rt, wrong_answer(&mut desk, &CHECKS));
+    let wrong = wrong_answer_over(rt.alloc(), &ONE_USER, &CHECKS)?;
+    all_right(&rt, wrong);
     Ok(())
 }
 
@@ -142,8 +142,8 @@ static SUSPENDS: [Case; 27] = [
 
 #[test]
 fn the_first_check_of_a_suspend_decides(rt: HostRuntime) -> Result<(), Fail> {
-    let mut desk = settled(rt.alloc(), &ONE_USER)?;
-    all_right(&rt, wrong_answer(&mut desk, &SUSPENDS));
+    let wrong = wrong_answer_over(rt.alloc(), &ONE_USER, &SUSPENDS)?;
+    all_right(&rt, wrong);
     Ok(())
 }
 
@@ -187,7 +187,7 @@ static REQUIREMENTS: [Case; 25] = [
 
 #[test]
 fn the_first_check_of_a_requirement_decides(rt: HostRuntime) -> Result<(), Fail> {
-    let mut desk = settled(rt.alloc(), &ONE_USER)?;
-    all_right(&rt, wrong_answer(&mut desk, &REQUIREMENTS));
+    let wrong = wrong_answer_over(rt.alloc(), &ONE_USER, &REQUIREMENTS)?;
+    all_right(&rt, wrong);
     Ok(())
 }

@@ -1,12 +1,10 @@
-//! Tests of a step's public calls: the book, what its own calls change, and the commands that follow it.
+//! Tests of a step's public calls: the book, and what its own calls change.
 #![tactic(auto)]
 
 #[cfg(test)]
 mod book;
 #[cfg(test)]
 mod calls;
-#[cfg(test)]
-mod carrying;
 #[cfg(test)]
 mod each_line;
 #[cfg(test)]

@@ -3,7 +3,9 @@
 use crate::rows::all_right;
 use pm_base::NodeId;
 use pm_core::Outbox;
-use pm_testing::{Case, Desk, Trigger, Turn, Want, event_of, settled, wrong_answer, wrong_turn};
+use pm_testing::{
+    Case, Desk, Trigger, Turn, Want, event_of, settled, wrong_answer, wrong_answer_over, wrong_turn,
+};
 use std::test::Fail;
 
 /// The masters 1 and 7, both of which may use slaves 11, 33 and 46. The first may wake 7, and reset the lines of slave
@@ -60,8 +62,8 @@ static CHECKS: [Case; 32] = [
 
 #[test]
 fn the_first_check_of_a_reset_decides(rt: HostRuntime) -> Result<(), Fail> {
-    let mut desk = settled(rt.alloc(), &RESETS)?;
-    all_right(&rt, wrong_answer(&mut desk, &CHECKS));
+    let wrong = wrong_answer_over(rt.alloc(), &RESETS, &CHECKS)?;
+    all_right(&rt, wrong);
     Ok(())
 }
 
@@ -195,7 +197,7 @@ static CHARACTERISTICS: [Case; 29] = [
 
 #[test]
 fn a_node_has_a_figure_and_a_latency(rt: HostRuntime) -> Result<(), Fail> {
-    let mut desk = settled(rt.alloc(), &RESETS)?;
-    all_right(&rt, wrong_answer(&mut desk, &CHARACTERISTICS));
+    let wrong = wrong_answer_over(rt.alloc(), &RESETS, &CHARACTERISTICS)?;
+    all_right(&rt, wrong);
     Ok(())
 }

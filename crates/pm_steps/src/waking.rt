@@ -4,7 +4,10 @@
 use crate::rows::all_right;
 use pm_base::NodeId;
 use pm_core::Book;
-use pm_testing::{Case, Trigger, Turn, Want, settled, wrong_answer, wrong_turn};
+use pm_testing::{
+    Case, Trigger, Turn, Want, settled, wrong_answer, wrong_answer_over, wrong_turn,
+    wrong_turn_over,
+};
 use std::test::Fail;
 
 /// The masters 1 and 7. The first may wake 7, and its wake word also has the bit of a master that isn't
@@ -57,8 +60,8 @@ static WAKEUPS: [Case; 26] = [
 
 #[test]
 fn the_first_check_of_a_wake_up_decides(rt: HostRuntime) -> Result<(), Fail> {
-    let mut desk = settled(rt.alloc(), &WAKING)?;
-    all_right(&rt, wrong_answer(&mut desk, &WAKEUPS));
+    let wrong = wrong_answer_over(rt.alloc(), &WAKING, &WAKEUPS)?;
+    all_right(&rt, wrong);
     Ok(())
 }
 
@@ -260,8 +263,8 @@ static CANCELLED: [Turn; 27] = [
 
 #[test]
 fn a_waking_before_the_sleep_cancels_the_schedule(rt: HostRuntime) -> Result<(), Fail> {
-    let mut desk = settled(rt.alloc(), &WAKING)?;
-    all_right(&rt, wrong_turn(&mut desk, &CANCELLED));
+    let wrong = wrong_turn_over(rt.alloc(), &WAKING, &CANCELLED)?;
+    all_right(&rt, wrong);
     Ok(())
 }
 
@@ -307,7 +310,7 @@ static ADDRESSES: [Turn; 20] = [
 
 #[test]
 fn a_processor_that_is_woken_starts_at_its_address(rt: HostRuntime) -> Result<(), Fail> {
-    let mut desk = settled(rt.alloc(), &WAKING)?;
-    all_right(&rt, wrong_turn(&mut desk, &ADDRESSES));
+    let wrong = wrong_turn_over(rt.alloc(), &WAKING, &ADDRESSES)?;
+    all_right(&rt, wrong);
     Ok(())
 }

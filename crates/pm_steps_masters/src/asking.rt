@@ -1,7 +1,7 @@
 //! One master asks another to suspend, and a master aborts its suspend: the first check that fails decides.
 
 use crate::rows::all_right;
-use pm_testing::{Case, Trigger, Want, event_of, settled, wrong_answer};
+use pm_testing::{Case, Trigger, Want, event_of, settled, wrong_answer, wrong_answer_over};
 use std::test::Fail;
 
 /// The masters 1, 8 and 7, in this order, with the timeouts 100, 0 and 40. The first may suspend all three, 8 may
@@ -71,8 +71,8 @@ static REQUESTS: [Case; 40] = [
 
 #[test]
 fn the_first_check_of_a_request_to_suspend_decides(rt: HostRuntime) -> Result<(), Fail> {
-    let mut desk = settled(rt.alloc(), &ASKING)?;
-    all_right(&rt, wrong_answer(&mut desk, &REQUESTS));
+    let wrong = wrong_answer_over(rt.alloc(), &ASKING, &REQUESTS)?;
+    all_right(&rt, wrong);
     Ok(())
 }
 

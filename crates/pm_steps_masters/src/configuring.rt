@@ -1,12 +1,11 @@
 //! A master puts an attached object in force.
 
-use crate::notices::{Notice, wrong_notice};
 use crate::rows::all_right;
 use pm_base::Caps;
 use pm_rows::Row;
 use pm_testing::{
-    Case, Desk, RowCase, Trigger, UNUSED, Want, desk_attached, event_of, message, wrong_answer,
-    wrong_row, wrong_value,
+    Case, Desk, Notice, RowCase, Trigger, UNUSED, Want, desk_attached, event_of, message,
+    wrong_answer, wrong_notice, wrong_row, wrong_value,
 };
 use std::alloc::Global;
 use std::test::Fail;

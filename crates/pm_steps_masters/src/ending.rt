@@ -2,10 +2,9 @@
 //! acknowledge kind.
 
 use crate::asking::ASKING;
-use crate::notices::{have_called, have_replied};
 use crate::rows::all_right;
 use pm_core::Outbox;
-use pm_testing::{Desk, Trigger, event_of, settled};
+use pm_testing::{Desk, Trigger, event_of, have_called, have_replied, settled};
 use std::alloc::Global;
 use std::test::Fail;
 

@@ -1,8 +1,7 @@
 //! Masters ask to be told of nodes: the checks of the call, what they are told, and what waits while they sleep.
 
-use crate::notices::{Notice, wrong_notice};
 use crate::rows::all_right;
-use pm_testing::{Case, Trigger, Want, settled, wrong_answer};
+use pm_testing::{Case, Notice, Trigger, Want, wrong_answer_over, wrong_notice_over};
 use std::test::Fail;
 
 /// The masters 1 and 7, which may suspend each other. Both may use slave 11 at a time, and only the first one the
@@ -51,8 +50,8 @@ static REGISTRATIONS: [Case; 24] = [
 
 #[test]
 fn the_first_check_of_a_registration_decides(rt: HostRuntime) -> Result<(), Fail> {
-    let mut desk = settled(rt.alloc(), &NOTIFYING)?;
-    all_right(&rt, wrong_answer(&mut desk, &REGISTRATIONS));
+    let wrong = wrong_answer_over(rt.alloc(), &NOTIFYING, &REGISTRATIONS)?;
+    all_right(&rt, wrong);
     Ok(())
 }
 
@@ -137,8 +136,8 @@ static EVENTS: [Notice; 22] = [
 
 #[test]
 fn masters_are_told_of_the_events_for_which_they_asked(rt: HostRuntime) -> Result<(), Fail> {
-    let mut desk = settled(rt.alloc(), &NOTIFYING)?;
-    all_right(&rt, wrong_notice(&mut desk, &EVENTS));
+    let wrong = wrong_notice_over(rt.alloc(), &NOTIFYING, &EVENTS)?;
+    all_right(&rt, wrong);
     Ok(())
 }
 
@@ -198,7 +197,7 @@ static WAITS: [Notice; 24] = [
 
 #[test]
 fn what_a_sleeping_master_would_be_told_waits_until_it_wakes(rt: HostRuntime) -> Result<(), Fail> {
-    let mut desk = settled(rt.alloc(), &NOTIFYING)?;
-    all_right(&rt, wrong_notice(&mut desk, &WAITS));
+    let wrong = wrong_notice_over(rt.alloc(), &NOTIFYING, &WAITS)?;
+    all_right(&rt, wrong);
     Ok(())
 }

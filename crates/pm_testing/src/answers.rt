@@ -1,10 +1,12 @@
 //! What the sender of a message is answered.
 
-use crate::desk::Desk;
+use crate::desk::{Desk, settled};
 use crate::events::message;
 use pm_base::NodeId;
 use pm_core::Answer;
 use pm_ipi::Response;
+use std::alloc::Global;
+use std::test::Fail;
 
 /// What is answered to the sender: nothing, a drop, a reply of a status and three words, or an
 /// acknowledgement of a node with its status and operating point.
@@ -47,4 +49,14 @@ pub fn wrong_answer(desk: &mut Desk, cases: &[Case]) -> Option<usize> {
         }
     }
     None
+}
+
+/// The same of a book that has settled over an object of these words.
+pub fn wrong_answer_over(
+    alloc: Global,
+    words: &[u32],
+    cases: &[Case],
+) -> Result<Option<usize>, Fail> {
+    let mut desk = settled(alloc, words)?;
+    Ok(wrong_answer(&mut desk, cases))
 }

@@ -5,13 +5,17 @@
 pub mod answers;
 pub mod desk;
 pub mod events;
+pub mod notices;
 pub mod rows;
 pub mod turns;
 
-pub use answers::{Case, Want, wrong_answer};
+pub use answers::{Case, Want, wrong_answer, wrong_answer_over};
 pub use desk::{
     Desk, boxed, bytes_of, chip, desk_attached, desk_beside, desk_of, desk_with, object_of, settled,
 };
 pub use events::{Trigger, event_of, message};
+pub use notices::{
+    Call, Notice, Reply, have_called, have_replied, wrong_notice, wrong_notice_over,
+};
 pub use rows::{RowCase, UNUSED, wrong_row, wrong_value};
-pub use turns::{Turn, have_moved, have_started, wrong_turn};
+pub use turns::{Turn, have_moved, have_started, wrong_turn, wrong_turn_over};

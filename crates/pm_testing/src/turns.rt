@@ -1,9 +1,11 @@
 //! Which processors start in a step, and which nodes move.
 
-use crate::desk::Desk;
+use crate::desk::{Desk, settled};
 use crate::events::{Trigger, event_of};
 use pm_base::{NodeId, Unit};
 use pm_core::Outbox;
+use std::alloc::Global;
+use std::test::Fail;
 
 /// Whether these nodes moved, in order.
 pub fn have_moved(out: &Outbox, nodes: &[u32]) -> bool {
@@ -43,4 +45,14 @@ pub fn wrong_turn(desk: &mut Desk, turns: &[Turn]) -> Option<usize> {
         }
     }
     None
+}
+
+/// The same of a book that has settled over an object of these words.
+pub fn wrong_turn_over(
+    alloc: Global,
+    words: &[u32],
+    turns: &[Turn],
+) -> Result<Option<usize>, Fail> {
+    let mut desk = settled(alloc, words)?;
+    Ok(wrong_turn(&mut desk, turns))
 }

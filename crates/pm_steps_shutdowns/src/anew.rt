@@ -1,9 +1,10 @@
 //! What is left of reset lines, notifiers and notes that wait where masters are forced down, restarted or shut down.
 
-use crate::notices::{Notice, wrong_notice};
 use crate::rows::all_right;
 use pm_base::{LineId, Unit};
-use pm_testing::{Case, Trigger, Want, event_of, settled, wrong_answer};
+use pm_testing::{
+    Case, Notice, Trigger, Want, event_of, settled, wrong_answer, wrong_notice, wrong_notice_over,
+};
 use std::test::Fail;
 
 /// The masters 1 and 7, which may use slaves 11, 19 and 33; the first one gets slave 19 at load and when it starts. It may
@@ -40,8 +41,8 @@ static OWN_FORCE: [Notice; 14] = [
 fn the_acknowledgement_of_a_force_waits_for_a_caller_that_sleeps(
     rt: HostRuntime,
 ) -> Result<(), Fail> {
-    let mut desk = settled(rt.alloc(), &ANEW)?;
-    all_right(&rt, wrong_notice(&mut desk, &OWN_FORCE));
+    let wrong = wrong_notice_over(rt.alloc(), &ANEW, &OWN_FORCE)?;
+    all_right(&rt, wrong);
     Ok(())
 }
 
@@ -68,8 +69,8 @@ static OWN_RESTART: [Notice; 8] = [
 
 #[test]
 fn a_master_that_restarts_forgets_what_it_asked_for(rt: HostRuntime) -> Result<(), Fail> {
-    let mut desk = settled(rt.alloc(), &ANEW)?;
-    all_right(&rt, wrong_notice(&mut desk, &OWN_RESTART));
+    let wrong = wrong_notice_over(rt.alloc(), &ANEW, &OWN_RESTART)?;
+    all_right(&rt, wrong);
     Ok(())
 }
 
@@ -91,8 +92,8 @@ static FORCED: [Notice; 12] = [
 
 #[test]
 fn a_master_that_is_forced_off_forgets_what_waited(rt: HostRuntime) -> Result<(), Fail> {
-    let mut desk = settled(rt.alloc(), &ANEW)?;
-    all_right(&rt, wrong_notice(&mut desk, &FORCED));
+    let wrong = wrong_notice_over(rt.alloc(), &ANEW, &FORCED)?;
+    all_right(&rt, wrong);
     Ok(())
 }
 

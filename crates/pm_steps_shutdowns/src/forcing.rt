@@ -1,10 +1,12 @@
 //! Processors and power nodes are forced down, whoever uses them.
 
-use crate::notices::{Notice, wrong_notice};
 use crate::rows::all_right;
 use pm_base::NodeId;
 use pm_core::Answer;
-use pm_testing::{Case, Trigger, Turn, Want, event_of, settled, wrong_answer, wrong_turn};
+use pm_testing::{
+    Case, Notice, Trigger, Turn, Want, event_of, settled, wrong_answer_over, wrong_notice_over,
+    wrong_turn, wrong_turn_over,
+};
 use std::test::Fail;
 
 /// The masters 1, 7 and 8, which may use slaves 11, 15, 19 and 46. The first may suspend and wake the others. Power nodes
@@ -51,8 +53,8 @@ static FORCES: [Case; 20] = [
 
 #[test]
 fn the_first_check_of_a_force_decides(rt: HostRuntime) -> Result<(), Fail> {
-    let mut desk = settled(rt.alloc(), &FORCING)?;
-    all_right(&rt, wrong_answer(&mut desk, &FORCES));
+    let wrong = wrong_answer_over(rt.alloc(), &FORCING, &FORCES)?;
+    all_right(&rt, wrong);
     Ok(())
 }
 
@@ -90,8 +92,8 @@ static POWERS: [Turn; 20] = [
 
 #[test]
 fn a_power_node_falls_with_all_below_it(rt: HostRuntime) -> Result<(), Fail> {
-    let mut desk = settled(rt.alloc(), &FORCING)?;
-    all_right(&rt, wrong_turn(&mut desk, &POWERS));
+    let wrong = wrong_turn_over(rt.alloc(), &FORCING, &POWERS)?;
+    all_right(&rt, wrong);
     Ok(())
 }
 
@@ -120,8 +122,8 @@ static PROCESSORS: [Turn; 16] = [
 
 #[test]
 fn a_processor_falls_alone(rt: HostRuntime) -> Result<(), Fail> {
-    let mut desk = settled(rt.alloc(), &FORCING)?;
-    all_right(&rt, wrong_turn(&mut desk, &PROCESSORS));
+    let wrong = wrong_turn_over(rt.alloc(), &FORCING, &PROCESSORS)?;
+    all_right(&rt, wrong);
     Ok(())
 }
 
@@ -149,8 +151,8 @@ static REQUESTS: [Notice; 6] = [
 
 #[test]
 fn a_force_ends_what_is_pending(rt: HostRuntime) -> Result<(), Fail> {
-    let mut desk = settled(rt.alloc(), &FORCING)?;
-    all_right(&rt, wrong_notice(&mut desk, &REQUESTS));
+    let wrong = wrong_notice_over(rt.alloc(), &FORCING, &REQUESTS)?;
+    all_right(&rt, wrong);
     Ok(())
 }
 

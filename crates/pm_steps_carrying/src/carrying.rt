@@ -7,12 +7,12 @@ ghost use Rattle.pm_record.specs.Record.{IsRecordOf};
 
 use crate::rows::all_right;
 use pm_apply::{carry, carry_all, marks_suffice};
-use pm_base::{Event, LineId, Message, NoMemory, NodeId, Unit};
+use pm_base::{Event, LineId, NoMemory, NodeId, Unit};
 use pm_core::{Answer, Outbox};
 use pm_device::{Device, ListedDevice, ModelDevice};
 use pm_object::Object;
 use pm_record::Kept;
-use pm_testing::{Desk, Trigger, boxed, chip, desk_with, event_of, object_of};
+use pm_testing::{Desk, Trigger, boxed, chip, desk_with, event_of, message, object_of};
 use pm_topology::Topology;
 use std::alloc::Global;
 use std::test::Fail;
@@ -96,14 +96,12 @@ fn listed(alloc: Global, failing: &[u32]) -> Result<Box<ListedDevice>, Fail> {
 
 /// A call of master 7 on node 28 with ACCESS.
 fn call(api: u32) -> Event {
-    let message = Message {
-        api,
-        args: [28, 1, 0, 2, 0],
-    };
-    Event::Ipi {
-        master: NodeId(7),
-        message,
-    }
+    call_on(api, 28, 1)
+}
+
+/// A call of master 7 with these first two arguments.
+fn call_on(api: u32, first: u32, second: u32) -> Event {
+    message(7, api, [first, second, 0, 2])
 }
 
 impl Drive {
@@ -281,18 +279,6 @@ fn a_device_that_does_not_follow_is_an_internal_error(rt: HostRuntime) -> Result
     let mut drive = drive_of(rt.alloc(), &mut *dev)?;
     all_right(&rt, wrong_told(&mut drive, &mut *dev, &TOLD));
     Ok(())
-}
-
-/// A call of master 7 with these first two arguments.
-fn call_on(api: u32, first: u32, second: u32) -> Event {
-    let message = Message {
-        api,
-        args: [first, second, 0, 2, 0],
-    };
-    Event::Ipi {
-        master: NodeId(7),
-        message,
-    }
 }
 
 /// Whether these commands were given to line 28: the value before, the value, and whether the device took it.

@@ -1,57 +1,9 @@
-//! Late replies and callbacks: what each step of a run tells, and to whom.
+//! Requests to suspend that are pending: in which step each ends, and what is told then.
 
 use crate::asking::ASKING;
 use crate::rows::all_right;
-use pm_core::Outbox;
-use pm_testing::{Desk, Trigger, event_of, settled};
+use pm_testing::{Notice, Trigger, wrong_notice_over};
 use std::test::Fail;
-
-/// A late reply: the master and the status.
-pub(crate) type Reply = (u32, u32);
-
-/// A callback: the master, the number and the arguments.
-pub(crate) type Call = (u32, u32, [u32; 4]);
-
-pub(crate) fn have_replied(out: &Outbox, replies: &[Reply]) -> bool {
-    let late = out.late.as_slice();
-    for (place, wanted) in replies.iter().enumerate() {
-        let found = match late.get(place) {
-            Some(reply) => (reply.master.0, reply.status),
-            None => return false,
-        };
-        if found != *wanted {
-            return false;
-        }
-    }
-    late.len() == replies.len()
-}
-
-pub(crate) fn have_called(out: &Outbox, callbacks: &[Call]) -> bool {
-    let calls = out.callbacks.as_slice();
-    for (place, wanted) in callbacks.iter().enumerate() {
-        let found = match calls.get(place) {
-            Some(call) => (call.master.0, call.id, call.args),
-            None => return false,
-        };
-        if found != *wanted {
-            return false;
-        }
-    }
-    calls.len() == callbacks.len()
-}
-
-/// What happens, and the late replies and the callbacks of the step, each in order.
-pub(crate) type Notice = (Trigger, &'static [Reply], &'static [Call]);
-
-pub(crate) fn wrong_notice(desk: &mut Desk, notices: &[Notice]) -> Option<usize> {
-    for (place, (trigger, late, calls)) in notices.iter().enumerate() {
-        desk.take(&event_of(*trigger));
-        if !have_replied(&desk.out, late) || !have_called(&desk.out, calls) {
-            return Some(place);
-        }
-    }
-    None
-}
 
 /// Time passes. Master 8 has a timeout of 0, master 7 one of 40, master 1 one of 100.
 static TIMES: [Notice; 20] = [
@@ -104,8 +56,8 @@ static TIMES: [Notice; 20] = [
 
 #[test]
 fn a_request_times_out_with_the_tick_that_reaches_its_timeout(rt: HostRuntime) -> Result<(), Fail> {
-    let mut desk = settled(rt.alloc(), &ASKING)?;
-    all_right(&rt, wrong_notice(&mut desk, &TIMES));
+    let wrong = wrong_notice_over(rt.alloc(), &ASKING, &TIMES)?;
+    all_right(&rt, wrong);
     Ok(())
 }
 
@@ -151,8 +103,8 @@ static LONG: [Notice; 9] = [
 
 #[test]
 fn the_greatest_timeout_is_never_due(rt: HostRuntime) -> Result<(), Fail> {
-    let mut desk = settled(rt.alloc(), &NEVER)?;
-    all_right(&rt, wrong_notice(&mut desk, &LONG));
+    let wrong = wrong_notice_over(rt.alloc(), &NEVER, &LONG)?;
+    all_right(&rt, wrong);
     Ok(())
 }
 
@@ -227,8 +179,8 @@ static TOGETHER: [Notice; 14] = [
 
 #[test]
 fn requests_that_end_together_stand_in_object_order(rt: HostRuntime) -> Result<(), Fail> {
-    let mut desk = settled(rt.alloc(), &ASKING)?;
-    all_right(&rt, wrong_notice(&mut desk, &TOGETHER));
+    let wrong = wrong_notice_over(rt.alloc(), &ASKING, &TOGETHER)?;
+    all_right(&rt, wrong);
     Ok(())
 }
 
@@ -289,7 +241,7 @@ static MODES: [Notice; 24] = [
 
 #[test]
 fn a_request_ends_with_the_mode_of_its_target(rt: HostRuntime) -> Result<(), Fail> {
-    let mut desk = settled(rt.alloc(), &ASKING)?;
-    all_right(&rt, wrong_notice(&mut desk, &MODES));
+    let wrong = wrong_notice_over(rt.alloc(), &ASKING, &MODES)?;
+    all_right(&rt, wrong);
     Ok(())
 }

@@ -1,12 +1,11 @@
 //! Masters, or all of the system, are shut down and restarted.
 
 use crate::forcing::FORCING;
-use crate::notices::{Notice, wrong_notice};
 use crate::rows::all_right;
 use pm_rows::Row;
 use pm_testing::{
-    Case, RowCase, Trigger, Turn, UNUSED, Want, desk_of, event_of, settled, wrong_answer,
-    wrong_row, wrong_turn,
+    Case, Notice, RowCase, Trigger, Turn, UNUSED, Want, desk_of, event_of, settled,
+    wrong_answer_over, wrong_notice, wrong_row, wrong_turn, wrong_turn_over,
 };
 use std::test::Fail;
 
@@ -47,8 +46,8 @@ static SHUTDOWNS: [Case; 23] = [
 
 #[test]
 fn the_first_check_of_a_shutdown_decides(rt: HostRuntime) -> Result<(), Fail> {
-    let mut desk = settled(rt.alloc(), &FORCING)?;
-    all_right(&rt, wrong_answer(&mut desk, &SHUTDOWNS));
+    let wrong = wrong_answer_over(rt.alloc(), &FORCING, &SHUTDOWNS)?;
+    all_right(&rt, wrong);
     Ok(())
 }
 
@@ -69,8 +68,8 @@ static OWN: [Turn; 11] = [
 
 #[test]
 fn a_master_shuts_itself_down(rt: HostRuntime) -> Result<(), Fail> {
-    let mut desk = settled(rt.alloc(), &FORCING)?;
-    all_right(&rt, wrong_turn(&mut desk, &OWN));
+    let wrong = wrong_turn_over(rt.alloc(), &FORCING, &OWN)?;
+    all_right(&rt, wrong);
     Ok(())
 }
 
@@ -140,8 +139,8 @@ static HALTED: [Turn; 9] = [
 
 #[test]
 fn nothing_happens_once_all_is_shut_down(rt: HostRuntime) -> Result<(), Fail> {
-    let mut desk = settled(rt.alloc(), &FORCING)?;
-    all_right(&rt, wrong_turn(&mut desk, &HALTED));
+    let wrong = wrong_turn_over(rt.alloc(), &FORCING, &HALTED)?;
+    all_right(&rt, wrong);
     Ok(())
 }
 

@@ -1,10 +1,12 @@
 //! Each type and subtype of a shutdown, with the permission and without, while requests are pending, a callback waits and a
 //! reset line is asserted.
 
-use crate::notices::{Call, Notice, Reply, have_called, have_replied, wrong_notice};
 use crate::rows::all_right;
 use pm_base::{LineId, Unit};
-use pm_testing::{Case, Desk, Trigger, Want, event_of, settled, wrong_answer, wrong_value};
+use pm_testing::{
+    Call, Case, Desk, Notice, Reply, Trigger, Want, event_of, have_called, have_replied, settled,
+    wrong_answer, wrong_notice, wrong_value,
+};
 use std::alloc::Global;
 use std::test::Fail;
 

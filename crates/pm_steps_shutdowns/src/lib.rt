@@ -1,0 +1,15 @@
+//! Tests of steps in which nodes are forced down, and masters or all of the system are shut down or restarted.
+#![tactic(auto)]
+
+#[cfg(test)]
+mod anew;
+#[cfg(test)]
+mod each_node;
+#[cfg(test)]
+mod each_shutdown;
+#[cfg(test)]
+mod forcing;
+#[cfg(test)]
+mod rows;
+#[cfg(test)]
+mod shutting;
