@@ -14,7 +14,6 @@ ghost use Rattle.pm_record.specs.Record.{HasSupplies, kept_value};
 ghost use Rattle.pm_apply.specs.Left.{IsFollowed};
 ghost use Rattle.pm_apply.specs.Visits.{IsIdleAt, power_lags};
 
-use crate::wanted::value_at;
 use pm_base::{Command, LineId, Unit};
 use pm_core::Book;
 use pm_record::{Kept, KeptValue, is_power_kind, powers_at};
@@ -185,7 +184,7 @@ fn rises(at: usize, unit: Unit, parent: Option<usize>, book: &Book, kept: &Kept)
     requires { slice_get (units_of book.now.fixed.topology) at ≡ Some unit }
     ensures { result ≡ ((value unit book.now == 1) && is_fed book.now.fixed.topology kept.now parent) }
 {
-    value_at(at, unit, book) == 1 && is_fed(book.topology(), kept, parent)
+    book.value_at(at) == 1 && is_fed(book.topology(), kept, parent)
 }
 
 /// The place in the record of the power node at a place that goes down, and its command. Nothing comes out where it has
@@ -231,7 +230,7 @@ fn falls(at: usize, unit: Unit, place: usize, book: &Book, kept: &Kept) -> bool
     requires supplies { HasSupplies book.now.fixed.topology kept.now }
     ensures { result ≡ ((value unit book.now == 0) && not (is_used book.now.fixed.topology kept.now place)) }
 {
-    value_at(at, unit, book) == 0 && !is_used(place, book, kept)
+    book.value_at(at) == 0 && !is_used(place, book, kept)
 }
 
 /// The pulse that stands before a turn: before that of a reset line that is pulsed.
@@ -355,7 +354,7 @@ pub(crate) fn apply_at(place: usize, unit: Unit, book: &Book, kept: &Kept) -> Op
     let Some((_, entry)) = kept.entry(place) else {
         return None;
     };
-    let value = value_at(place, unit, book);
+    let value = book.value_at(place);
     where_due(
         takes_at(place, unit, value, entry, book.topology(), kept),
         Command { unit, value },

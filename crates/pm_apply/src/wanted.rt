@@ -1,8 +1,6 @@
 //! The values of a book, as a record asks for them.
 
-ghost use Rattle.std.specs.Prelude.{◌≡◌, slice_get, Some};
-ghost use Rattle.pm_topology.specs.Units.{units_of};
-ghost use Rattle.pm_state.specs.Values.{value as value_in};
+ghost use Rattle.std.specs.Prelude.{◌≡◌};
 
 use pm_base::Unit;
 use pm_core::Book;
@@ -15,7 +13,7 @@ pub(crate) struct UnitValues<'a> {
 }
 
 impl<'a> Wanted for UnitValues<'a> {
-    ghost use Rattle.std.specs.Prelude.{⊤};
+    ghost use Rattle.std.specs.Prelude.{◌≡◌, ⊤};
     ghost use Rattle.pm_state.specs.Values.{value as value_in};
 
     ghost value = { λ values u. value_in u values.book.now };
@@ -45,19 +43,10 @@ impl<'a> Wanted for PlaceValues<'a> {
     ghost IsAt = { λ values place unit. slice_get (units_of values.book.now.fixed.topology) place ≡ Some unit };
 
     #[inline(always)]
-    fn value_at(&self, place: usize, unit: Unit) -> u32
-        requires { slice_get (units_of self.now.book.now.fixed.topology) place ≡ Some unit }
-        ensures { result ≡ value_in unit self.now.book.now }
+    fn value_at(&self, place: usize, _unit: Unit) -> u32
+        requires { slice_get (units_of self.now.book.now.fixed.topology) place ≡ Some _unit }
+        ensures { result ≡ value_in _unit self.now.book.now }
     {
-        value_at(place, unit, self.book)
+        self.book.value_at(place)
     }
-}
-
-/// The value of the unit at a place, which is this one.
-#[inline(always)]
-pub(crate) fn value_at(_place: usize, unit: Unit, book: &Book) -> u32
-    requires { slice_get (units_of book.now.fixed.topology) _place ≡ Some unit }
-    ensures { result ≡ value_in unit book.now }
-{
-    book.value(unit)
 }
