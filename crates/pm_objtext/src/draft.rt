@@ -244,7 +244,9 @@ impl Draft {
         ensures { Gives result (finished self.line (so_far self)) }
     {
         if let Some(cause) = self.end_cause() {
-            return Err(self.fault(cause));
+            let fault = self.fault(cause);
+            drop(self);
+            return Err(fault);
         }
         Ok(self.into_object(alloc)?)
     }
