@@ -20,14 +20,14 @@ in_ok : {A E : Type 0} (P : A → Type 0) (made : Result A E) (it : A) → made 
 in_ok {A} {E} P made it is holds = subst (λ (r : Result A E). IfOk r P) is holds
 
 -- a runner, a record and clocks are those of an object at load
-pub record IsMade (object : Object) (attached : List Attached) (t : Topology) (runner : Runner) (kept : Kept) (clocks : Clocked) : Type 0 where
-  pub book : runner.book ≡ load_of object attached t
-  pub boxes : runner.boxes ≡ (loaded (setup object attached t)).boxes
-  pub out : Holds (outputs_at_load runner.book) runner.outbox
-  pub kept : kept ≡ at_zero t
-  pub is_record : IsRecordOf runner.book.fixed.topology kept
-  pub clocks : AreOf runner.book clocks
-  pub over : IsOver runner.book clocks.tree
+pub record IsMade (object : Object) (attached : List Attached) (t : Topology) (r : Runner) (k : Kept) (it : Clocked) : Type 0 where
+  pub book : r.book ≡ load_of object attached t
+  pub boxes : r.boxes ≡ (loaded (setup object attached t)).boxes
+  pub out : Holds (outputs_at_load r.book) r.outbox
+  pub kept : k ≡ at_zero t
+  pub is_record : IsRecordOf r.book.fixed.topology k
+  pub clocks : AreOf r.book it
+  pub over : IsOver r.book it.tree
 
 -- the record was made, then the runner, and then the clocks over that runner
 pub all_made : (object o : Object) (attached a : List Attached) (t t' : Topology) (first second third : Kept) (one two : Runner) (clocks : Clocked)
