@@ -1,2 +1,1 @@
 pub mod SidesLaw
-pub mod TableLaw

@@ -5,10 +5,8 @@
 #[cfg(test)]
 mod both;
 #[cfg(test)]
-mod comparing;
-#[cfg(test)]
 mod rows;
 #[cfg(test)]
 mod running;
 #[cfg(test)]
-mod table;
+mod sides;

@@ -1,12 +1,13 @@
 //! A list of events is run at once, and one by one.
 
-use crate::both::{ASKED, Desk, Turn, desk_of, writes};
-use crate::comparing::object;
+use crate::both::{ASKED, Turn};
 use crate::rows::all_right;
+use crate::sides::{desk_of, writes};
 use pm_base::{Event, List, NodeId, Unit, with};
 use pm_core::{Book, Outbox};
 use pm_laws::{quiet_event, run};
 use pm_script::parse_line;
+use pm_testing::{Desk, SMALL_OBJECT, have_moved, object_of};
 use std::alloc::Global;
 use std::test::Fail;
 
@@ -27,34 +28,27 @@ fn events_without(alloc: Global, m: NodeId, turns: &[Turn]) -> Result<Vec<Event>
     Ok(events)
 }
 
+/// These events at once.
+fn run_at_once(desk: &mut Desk, events: &[Event]) {
+    run(&mut desk.book, events, &mut desk.out);
+}
+
 /// The book at load, after a run of these events at once.
 fn run_of(alloc: Global, events: &[Event]) -> Result<Box<Desk>, Fail> {
-    let object = Box::into_inner(object(alloc)?);
+    let object = Box::into_inner(object_of(alloc, SMALL_OBJECT)?);
     let mut desk = desk_of(alloc, object, List::new(alloc))?;
-    desk.run(events);
+    run_at_once(&mut desk, events);
     Ok(desk)
 }
 
 /// The book at load, after these events one by one.
 fn steps_of(alloc: Global, events: &[Event]) -> Result<Box<Desk>, Fail> {
-    let object = Box::into_inner(object(alloc)?);
+    let object = Box::into_inner(object_of(alloc, SMALL_OBJECT)?);
     let mut desk = desk_of(alloc, object, List::new(alloc))?;
     for event in events {
-        desk.step(event);
+        desk.take(event);
     }
     Ok(desk)
-}
-
-impl Desk {
-    /// These events at once.
-    fn run(&mut self, events: &[Event]) {
-        run(&mut self.book, events, &mut self.out);
-    }
-
-    /// One event.
-    fn step(&mut self, event: &Event) {
-        self.book.step(event, &mut self.out);
-    }
 }
 
 /// Whether these nodes have these values and operating points.
@@ -77,17 +71,6 @@ fn are_equal(one: &Book, other: &Book) -> bool {
         }
     }
     one.units() == other.units()
-}
-
-/// Whether these nodes moved in the last step, in order.
-fn have_moved(out: &Outbox, nodes: &[u32]) -> bool {
-    let moved = out.moved.as_slice();
-    for (place, node) in nodes.iter().enumerate() {
-        if moved.get(place).copied() != Some(Unit::Node(NodeId(*node))) {
-            return false;
-        }
-    }
-    moved.len() == nodes.len()
 }
 
 /// The master that is left out, and what the last step puts out. Node 9 is no master.
@@ -158,7 +141,7 @@ fn same_desks(alloc: Global, events: &[Event]) -> Result<(Box<Desk>, Box<Desk>),
 /// Whether a run of no event, after these, leaves this text and these nodes in the outbox, and the book as it is.
 fn keeps(alloc: Global, events: &[Event], text: &str, moved: &[u32]) -> Result<bool, Fail> {
     let (still, mut desk) = same_desks(alloc, events)?;
-    desk.run(&[]);
+    run_at_once(&mut desk, &[]);
     let is_told = writes(alloc, 0, &desk.out, text);
     let is_kept = have_moved(&desk.out, moved) && are_equal(&desk.book, &still.book);
     drop(still);

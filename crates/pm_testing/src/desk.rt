@@ -1,7 +1,9 @@
 //! A book with its outbox, on the heap.
 
 ghost use Rattle.std.specs.Prelude.{◌≡◌, [], IfOk};
+ghost use Rattle.pm_object.specs.Grammar.{IsObject};
 ghost use Rattle.pm_topology.specs.WellFormed.{IsWellFormed};
+ghost use Rattle.pm_state.specs.Load.{load_of};
 ghost use Rattle.pm_core.specs.Outbox.{HasRoomFor};
 
 use crate::events::{Trigger, event_of, message};
@@ -45,6 +47,7 @@ pub fn desk_beside(
     chip: Topology,
 ) -> Result<Box<Desk>, NoMemory>
     requires formed { IsWellFormed chip }
+    ensures loaded { IfOk result (λ desk. desk.value.book ≡ load_of object attached chip) }
     ensures chip { IfOk result (λ desk. desk.value.book.fixed.topology ≡ chip) }
     ensures fresh { IfOk result (λ desk. desk.value.out.done.items ≡ []) }
 {
@@ -109,7 +112,9 @@ pub fn desk_attached(
 }
 
 /// The object of these words, on the heap.
-pub fn object_of(alloc: Global, words: &[u32]) -> Result<Box<Object>, Fail> {
+pub fn object_of(alloc: Global, words: &[u32]) -> Result<Box<Object>, Fail>
+    ensures formed { IfOk result (λ object. IsObject object.value) }
+{
     let bytes = bytes_of(alloc, words)?;
     let object = decode(alloc, &bytes)?;
     Ok(boxed(alloc, object)?)

@@ -7,6 +7,7 @@ pub mod desk;
 pub mod events;
 pub mod notices;
 pub mod rows;
+pub mod small_table;
 pub mod turns;
 
 pub use answers::{Case, Want, wrong_answer, wrong_answer_over};
@@ -18,4 +19,5 @@ pub use notices::{
     Call, Notice, Reply, have_called, have_replied, wrong_notice, wrong_notice_over,
 };
 pub use rows::{RowCase, UNUSED, wrong_row, wrong_value};
+pub use small_table::{SMALL_OBJECT, small_chip};
 pub use turns::{Turn, have_moved, have_started, wrong_turn, wrong_turn_over};

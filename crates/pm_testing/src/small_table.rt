@@ -3,7 +3,7 @@
 ghost use Rattle.std.specs.Prelude.{◌≡◌, ◌++◌, ◌∷◌, [], None, IfOk};
 ghost use Rattle.pm_chip.specs.Chip.{master, power, proc};
 ghost use Rattle.pm_topology.specs.WellFormed.{IsWellFormed};
-ghost use Rattle.pm_sides.specs.Table.{masters, powers, procs, slaves, small};
+ghost use Rattle.pm_testing.specs.SmallTable.{masters, powers, procs, slaves, small};
 
 use pm_base::{Caps, List, NoMemory, NodeId};
 use pm_topology::{MasterDef, PowerDef, ProcDef, SlaveDef, SlaveState, Topology};
@@ -12,13 +12,18 @@ use std::alloc::Global;
 /// The place of the power node under which the processors and the slave stand.
 const HELD: usize = 0;
 
+/// An object over it: masters 1 and 8, each of which may suspend 8, and slave 46, which 1 alone may use.
+pub const SMALL_OBJECT: &[u32] = &[
+    2, 2, 1, 0x101, 2, 1, 0x1, 100, 0x200, 0, 8, 0x200, 100, 0x200, 0, 0x102, 1, 46, 0, 0x1,
+];
+
 /// The table of the small chip.
 ///
 /// # Errors
 ///
 /// `NoMemory` where there is not enough memory.
-#[tactic(auto, using(crate::proofs::TableLaw::small_sound), unfolding(crate::specs::Table::small))]
-pub(crate) fn small_chip(alloc: Global) -> Result<Topology, NoMemory>
+#[tactic(auto, using(crate::proofs::SmallTableLaw::small_sound), unfolding(crate::specs::SmallTable::small))]
+pub fn small_chip(alloc: Global) -> Result<Topology, NoMemory>
     ensures table { IfOk result (λ topology. topology ≡ small) }
     ensures sound { IfOk result IsWellFormed }
 {

@@ -1,6 +1,6 @@
 use Rattle.std.proofs.Common.{◌∙◌, sym}
 use Rattle.pm_sides.proofs.SidesLaw.{same_place}
-use Rattle.pm_sides.proofs.both.owns.Goals as goal
+use Rattle.pm_sides.proofs.sides.owns.Goals as goal
 
 pub returns : goal.returns
 returns c = λ is.

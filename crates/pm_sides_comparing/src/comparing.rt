@@ -1,23 +1,17 @@
 //! A run of a script is compared with the run without the messages of a master.
 
 ghost use Rattle.std.specs.List.{list_any};
-ghost use Rattle.std.specs.Prelude.{◌==◌, IfOk, IsTrue};
+ghost use Rattle.std.specs.Prelude.{◌==◌, IsTrue};
 ghost use Rattle.pm_object.specs.Grammar.{IsObject};
 
-use crate::both::boxed;
 use crate::rows::all_right;
-use crate::table::small_chip;
 use pm_base::{Exit, NoMemory, NodeId, with};
 use pm_io::{MemInputs, MemSink};
 use pm_isolate::compare;
-use pm_object::{Object, decode, has_key};
+use pm_object::{Object, has_key};
+use pm_testing::{SMALL_OBJECT, object_of, small_chip};
 use std::alloc::Global;
 use std::test::Fail;
-
-/// Masters 1 and 8, each of which may suspend 8, and slave 46, which 1 alone may use.
-const OBJECT: &[u32] = &[
-    2, 2, 1, 0x101, 2, 1, 0x1, 100, 0x200, 0, 8, 0x200, 100, 0x200, 0, 0x102, 1, 46, 0, 0x1,
-];
 
 /// Master 1, whose mask is greater and which may wake 8, and master 8.
 const WAKING: &[u32] = &[2, 1, 1, 0x101, 2, 1, 0x200, 100, 0, 0x1, 8, 0x1, 100, 0, 0];
@@ -80,7 +74,7 @@ type Case = (&'static [u32], u32, &'static str, &'static str);
 /// What master 8 reaches has number 8 once, as that of a master.
 static CASES: [Case; 8] = [
     (
-        OBJECT,
+        SMALL_OBJECT,
         8,
         ASKED,
         "master 8 self 8
@@ -89,7 +83,7 @@ steps 9
 ",
     ),
     (
-        OBJECT,
+        SMALL_OBJECT,
         8,
         SLEEPING,
         "master 8 self 8
@@ -99,7 +93,7 @@ steps 4
 ",
     ),
     (
-        OBJECT,
+        SMALL_OBJECT,
         1,
         ASKED,
         "master 1 self 1
@@ -111,7 +105,7 @@ steps 9
 ",
     ),
     (
-        OBJECT,
+        SMALL_OBJECT,
         8,
         WAITING,
         "master 8 self 8
@@ -120,7 +114,7 @@ steps 5
 ",
     ),
     (
-        OBJECT,
+        SMALL_OBJECT,
         8,
         SLEEPING_LATER,
         "master 8 self 8
@@ -162,24 +156,6 @@ steps 4
 ",
     ),
 ];
-
-/// The object of the tests of books, on the heap.
-pub(crate) fn object(alloc: Global) -> Result<Box<Object>, Fail>
-    ensures { IfOk result (λ object. IsObject object.value) }
-{
-    object_of(alloc, OBJECT)
-}
-
-/// The object of these words, on the heap.
-pub(crate) fn object_of(alloc: Global, words: &[u32]) -> Result<Box<Object>, Fail>
-    ensures { IfOk result (λ object. IsObject object.value) }
-{
-    let mut bytes = Vec::new(alloc);
-    for word in words {
-        bytes.extend_from_slice(&word.to_le_bytes())?;
-    }
-    Ok(boxed(alloc, decode(alloc, &bytes)?)?)
-}
 
 /// The input `script` with these bytes.
 fn inputs_of(alloc: Global, script: &str) -> Result<MemInputs, Fail> {

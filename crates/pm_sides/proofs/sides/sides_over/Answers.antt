@@ -4,10 +4,10 @@ use Rattle.pm_object.specs.declared.object.Object.{Object}
 use Rattle.pm_state.specs.State.{Fixed}
 use Rattle.pm_laws.specs.ReachBorder.{border_of}
 use Rattle.pm_sides.specs.Sides.{at_4096}
-use Rattle.pm_sides.specs.Table.{small}
+use Rattle.pm_testing.specs.SmallTable.{small}
 use Rattle.pm_sides.proofs.SidesLaw.{objects_formed, sides_at_load}
-use Rattle.pm_sides.proofs.TableLaw.{small_sound}
-use Rattle.pm_sides.proofs.both.sides_over.Goals as goal
+use Rattle.pm_testing.proofs.SmallTableLaw.{small_sound}
+use Rattle.pm_sides.proofs.sides.sides_over.Goals as goal
 
 pub returns : goal.returns
 returns c =

@@ -2,7 +2,7 @@
 use Rattle.std.proofs.Common.{refl}
 use Rattle.pm_topology.specs.WellFormed.{IsWellFormed}
 use Rattle.pm_topology.proofs.WellFormedLaw.{well_formed_from}
-use Rattle.pm_sides.specs.Table.{small}
+use Rattle.pm_testing.specs.SmallTable.{small}
 
 pub small_sound : IsWellFormed small
 unfolding small
