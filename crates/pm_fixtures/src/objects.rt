@@ -5,12 +5,53 @@ pub const OBJECT: &[u32] = &[
     2, 2, 1, 0x101, 2, 1, 0x1, 100, 0, 0, 7, 0x100, 100, 0, 0, 0x102, 2, 11, 1, 0x101, 33, 0, 0x1,
 ];
 
+/// What a run over it writes at load, and its closing table where nothing moves after that.
+pub const OBJECT_LOADED: &str = "0 set 10 0 1
+0 set 62 0 1
+0 set 1 0 1
+0 set 2 0 1
+0 set 11 0 2
+0 set 33 0 1
+0 run 2 0
+";
+
+pub const OBJECT_CLOSED: &str = "end power 1 1 1
+end proc 2 1 1
+end power 10 1 1
+end slave 11 2 2
+end slave 33 1 1
+end power 62 1 1
+";
+
 /// Two masters, of which only 1 may use slave 33 and each may use 28, 39, 11 and 46; the last two can
 /// be shared. There are masks of a power node and of a reset line.
 pub const LABORATORY: &[u32] = &[
     2, 4, 1, 0x101, 2, 1, 0x1, 100, 0x100, 0x100, 7, 0x100, 100, 0, 0, 0x102, 5, 11, 1, 0x101, 28,
     0, 0x101, 33, 0, 0x1, 39, 0, 0x101, 46, 1, 0x101, 0x104, 1, 10, 0x100, 0x105, 1, 33, 0x1,
 ];
+
+/// What a run over it writes at load: the first processor of master 1 starts, and each slave that master 1 may use is held in
+/// its last state.
+pub const LABORATORY_LOADED: &str = "0 set 10 0 1
+0 set 62 0 1
+0 set 1 0 1
+0 set 2 0 1
+0 set 11 0 2
+0 set 28 0 1
+0 set 33 0 1
+0 set 39 0 1
+0 set 46 0 1
+0 run 2 0
+";
+
+/// What it then writes of the line `ipi 1 21`: master 1 has finished its initialization, and uses no slave.
+pub const LABORATORY_SETTLED: &str = "1 set 11 2 0
+1 set 28 1 0
+1 set 33 1 0
+1 set 39 1 0
+1 set 46 1 0
+1 reply 1 0 0 0 0
+";
 
 /// One master, the first real-time processor, which may use no slave.
 pub const ALONE: &[u32] = &[2, 1, 1, 0x101, 1, 7, 0x100, 100, 0, 0];
@@ -54,6 +95,25 @@ pub const DOMAINS: &[u32] = &[
     2, 2, 1, 0x101, 2, 8, 0x200, 100, 0, 0, 7, 0x100, 100, 0, 0, 0x102, 7, 15, 1, 0x100, 28, 1,
     0x100, 33, 1, 0x100, 42, 1, 0x100, 49, 1, 0x100, 55, 1, 0x100, 63, 1, 0x100,
 ];
+
+/// The text of a small topology, which has a slave that the chip doesn't have.
+pub const SMALL_TOPOLOGY: &str = "power 62 none 1 20 3000
+power 1 62 0 30 500
+proc 2 1 300 400
+proc 7 62 100 200
+proc 8 62 100 200
+slave 100 62
+state 0 1000 0 0
+state 1 0 1 5
+line 100 100
+owner 1 2
+owner 6 7
+owner 7 7
+owner 8 8
+";
+
+/// An object of a master over it that may use the slave, and has it at first.
+pub const SMALL: &[u32] = &[2, 2, 1, 257, 1, 1, 1, 100, 0, 0, 258, 1, 100, 1, 1];
 
 /// Three masters, each of which may use every slave of the chip and may force and reset some nodes and lines. It has all
 /// sections.

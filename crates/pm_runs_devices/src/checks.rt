@@ -29,6 +29,5 @@ pub(crate) fn check_with<D: Device>(
 
 /// Stops where a run of these words didn't end with the exit, or didn't write the text.
 fn judge(rt: &impl Abort, words: &str, found: Exit, exit: Exit, written: &[u8], text: &[u8]) {
-    assert_eq!(rt; found, exit, "{words}");
-    assert_eq!(rt; written, text, "{words}");
+    assert_eq!(rt; (found, written), (exit, text), "{words}");
 }

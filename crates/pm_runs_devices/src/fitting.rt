@@ -3,29 +3,10 @@
 use super::running::run_with;
 use pm_base::{Command, Exit};
 use pm_device::{Device, ModelDevice};
-use pm_fixtures::{Asked, model, node};
+use pm_fixtures::{Asked, SMALL, SMALL_TOPOLOGY, model, node};
 use pm_io::MemSink;
 use std::process::Abort;
 use std::test::Fail;
-
-/// A chip of which the device of a test has all units but a slave.
-const TOPOLOGY: &str = "power 62 none 1 20 3000
-power 1 62 0 30 500
-proc 2 1 300 400
-proc 7 62 100 200
-proc 8 62 100 200
-slave 100 62
-state 0 1000 0 0
-state 1 0 1 5
-line 100 100
-owner 1 2
-owner 6 7
-owner 7 7
-owner 8 8
-";
-
-/// An object of a master that may use the slave.
-static OBJECT: [u32; 15] = [2, 2, 1, 257, 1, 1, 1, 100, 0, 0, 258, 1, 100, 1, 1];
 
 /// Words, and which of the nodes 11, of the chip alone, and 100, of the topology alone, the device has after them.
 static CASES: [(&str, bool, bool); 3] = [
@@ -65,10 +46,10 @@ fn a_device_is_fitted_by_a_replay_alone(rt: HostRuntime) -> Result<(), Fail> {
     for (words, of_chip, of_topology) in CASES {
         let asked = Asked {
             words,
-            object: &OBJECT,
+            object: SMALL,
             script: b"ipi 1 21\n",
             failing: &[],
-            topology: TOPOLOGY.as_bytes(),
+            topology: SMALL_TOPOLOGY.as_bytes(),
         };
         check_fitted(&rt, &asked, of_chip, of_topology)?;
     }

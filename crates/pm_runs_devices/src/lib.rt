@@ -1,4 +1,4 @@
-//! Tests of whole runs over devices that fail, each a table of runs and one loop over it.
+//! Tests of whole runs over devices that follow the commands, but for nodes that are broken, each a table of runs and one loop over it.
 #![tactic(auto)]
 
 #[cfg(test)]
@@ -8,11 +8,7 @@ mod broken;
 #[cfg(test)]
 mod checks;
 #[cfg(test)]
-mod commands;
-#[cfg(test)]
 mod devices;
-#[cfg(test)]
-mod failing;
 #[cfg(test)]
 mod fitting;
 #[cfg(test)]

@@ -2,33 +2,14 @@
 
 use super::checks::{check, check_joined};
 use pm_base::Exit;
-use pm_fixtures::Asked;
+use pm_fixtures::{Asked, OBJECT_CLOSED, OBJECT_LOADED};
 use std::test::Fail;
 
-/// The object of two masters, in which master 1 may set the configuration.
+/// The object of two masters, in which master 1 may set the configuration: at load as without that.
 const CONFIGURED: &[u32] = &[
     2, 3, 1, 0x101, 2, 1, 0x1, 100, 0, 0, 7, 0x100, 100, 0, 0, 0x102, 2, 11, 1, 0x101, 33, 0, 0x1,
     0x107, 1, 0,
 ];
-
-/// What a run over it writes at load.
-const LOADED: &str = "0 set 10 0 1
-0 set 62 0 1
-0 set 1 0 1
-0 set 2 0 1
-0 set 11 0 2
-0 set 33 0 1
-0 run 2 0
-";
-
-/// The closing table where nothing has moved since the load.
-const CLOSED: &str = "end power 1 1 1
-end proc 2 1 1
-end power 10 1 1
-end slave 11 2 2
-end slave 33 1 1
-end power 62 1 1
-";
 
 /// An object is put in force in which slave 33 is master 7's.
 const EXCHANGED: &str = "object 4096 2 2 1 257 2 1 1 100 0 0 7 256 100 0 0 258 1 33 0 256
@@ -76,29 +57,29 @@ end power 62 1 1
     (
         "object 8 1\nipi 1 2 8\nobject 8 1\n",
         "2 reply 1 15 4 0 0\n3 late 8\n",
-        CLOSED,
+        OBJECT_CLOSED,
         Exit::Done,
     ),
     // no words
     (
         "object 8\nipi 1 2 8\n",
         "2 reply 1 15 3 0 0\n",
-        CLOSED,
+        OBJECT_CLOSED,
         Exit::Done,
     ),
     // the words of one address are joined, also where those of another stand between them
     (
         "object 8 2\nobject 9 2\nobject 8 1\nipi 1 2 8\nipi 1 2 9\n",
         "4 reply 1 15 3 2 0\n5 reply 1 15 3 1 0\n",
-        CLOSED,
+        OBJECT_CLOSED,
         Exit::Done,
     ),
     // an empty line ends the block, and so does a comment
-    ("\nobject 8 1\n", "2 late 8\n", CLOSED, Exit::Done),
+    ("\nobject 8 1\n", "2 late 8\n", OBJECT_CLOSED, Exit::Done),
     (
         "object 8 1\n# 1\nobject 9 1\n",
         "3 late 9\n",
-        CLOSED,
+        OBJECT_CLOSED,
         Exit::Done,
     ),
     // a seventeenth address ends the block, and words for an earlier one come too late then
@@ -126,7 +107,7 @@ ipi 1 2 16
 ipi 1 2 17
 ",
         "18 late 17\n19 late 1\n20 reply 1 15 4 0 0\n21 reply 1 15 0 0 0\n",
-        CLOSED,
+        OBJECT_CLOSED,
         Exit::Done,
     ),
     // a bad line in the block counts when the lines before it have been run
@@ -149,7 +130,7 @@ fn each_run_with_attached_objects_writes_its_text(rt: HostRuntime) -> Result<(),
             failing: &[],
             topology: &[],
         };
-        check_joined(&rt, &asked, &[LOADED, steps, end], *exit)?;
+        check_joined(&rt, &asked, &[OBJECT_LOADED, steps, end], *exit)?;
     }
     Ok(())
 }
@@ -164,7 +145,12 @@ fn a_read_that_fails_in_the_block_is_told_after_the_load(rt: HostRuntime) -> Res
         failing: &[(1, 15)],
         topology: &[],
     };
-    check_joined(&rt, &asked, &[LOADED, "fault read\n"], Exit::ReadFault)
+    check_joined(
+        &rt,
+        &asked,
+        &[OBJECT_LOADED, "fault read\n"],
+        Exit::ReadFault,
+    )
 }
 
 /// What master 7 reaches where an object attached gives it slave 33.

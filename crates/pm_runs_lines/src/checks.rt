@@ -1,11 +1,9 @@
 //! How a run is judged.
 
-use super::running::{run, run_with_board};
+use super::running::run;
 use pm_base::Exit;
 use pm_fixtures::{Asked, joined, replay_of};
 use pm_io::MemSink;
-use pm_modules::{ModulesOf, Responder};
-use pm_tasks::{Handler, TasksOf};
 use std::process::Abort;
 use std::test::Fail;
 
@@ -19,25 +17,12 @@ pub(crate) fn check(
 ) -> Result<(), Fail> {
     let mut out = MemSink::new(rt.alloc(), room)?;
     let found = run(rt.alloc(), asked, &mut out)?;
-    assert_eq!(rt; found, exit, "{}, room {room:?}", asked.words);
-    assert_eq!(rt; out.bytes(), text, "{}, room {room:?}", asked.words);
-    Ok(())
-}
-
-/// The same with these modules and tasks.
-pub(crate) fn check_with<H: Responder, T: Handler>(
-    rt: &(impl Abort + AllocGlobal),
-    asked: &Asked,
-    modules: &ModulesOf<H>,
-    tasks: &mut TasksOf<T>,
-    room: Option<u32>,
-    text: &[u8],
-    exit: Exit,
-) -> Result<(), Fail> {
-    let mut out = MemSink::new(rt.alloc(), room)?;
-    let found = run_with_board(rt.alloc(), asked, modules, tasks, &mut out)?;
-    assert_eq!(rt; found, exit, "{}, room {room:?}", asked.words);
-    assert_eq!(rt; out.bytes(), text, "{}, room {room:?}", asked.words);
+    assert_eq!(rt;
+        (found, out.bytes()),
+        (exit, text),
+        "{}, room {room:?}",
+        asked.words
+    );
     Ok(())
 }
 

@@ -14,16 +14,10 @@ mod checks;
 #[cfg(test)]
 mod clocks;
 #[cfg(test)]
-mod handlers;
-#[cfg(test)]
-mod modules;
-#[cfg(test)]
 mod power_calls;
 #[cfg(test)]
 mod running;
 #[cfg(test)]
 mod steps;
-#[cfg(test)]
-mod tasks;
 #[cfg(test)]
 mod waking;

@@ -2,32 +2,9 @@
 
 use super::checks::{check, check_joined, check_pieces};
 use pm_base::Exit;
-use pm_fixtures::{LABORATORY, OBJECT, joined, replay_of};
+use pm_fixtures::{LABORATORY, LABORATORY_LOADED, LABORATORY_SETTLED, OBJECT, joined, replay_of};
 use std::process::Abort;
 use std::test::Fail;
-
-/// What a run over the laboratory's object writes at load: the first processor of master 1 starts, and
-/// each slave that master 1 may use is held in its last state.
-pub(crate) const LOADED: &str = "0 set 10 0 1
-0 set 62 0 1
-0 set 1 0 1
-0 set 2 0 1
-0 set 11 0 2
-0 set 28 0 1
-0 set 33 0 1
-0 set 39 0 1
-0 set 46 0 1
-0 run 2 0
-";
-
-/// What it then writes of the line `ipi 1 21`: master 1 has finished its initialization, and uses no slave.
-pub(crate) const SETTLED: &str = "1 set 11 2 0
-1 set 28 1 0
-1 set 33 1 0
-1 set 39 1 0
-1 set 46 1 0
-1 reply 1 0 0 0 0
-";
 
 /// A script over the laboratory's object after its first line, `ipi 1 21`, and its text after that line's.
 static SETTLED_RUNS: [(&str, &str); 10] = [
@@ -207,7 +184,7 @@ pub(crate) fn check_settled(
             rt,
             LABORATORY,
             &["ipi 1 21\n", lines],
-            &[LOADED, SETTLED, text],
+            &[LABORATORY_LOADED, LABORATORY_SETTLED, text],
         )?;
     }
     Ok(())
@@ -240,7 +217,12 @@ end slave 46 1 1
 end power 62 1 1
 ";
     let asked = replay_of(PREALLOCATED, b"ipi 1 21\nboot 7 0\n");
-    check_joined(&rt, &asked, &[LOADED, SETTLED, text], Exit::Done)
+    check_joined(
+        &rt,
+        &asked,
+        &[LABORATORY_LOADED, LABORATORY_SETTLED, text],
+        Exit::Done,
+    )
 }
 
 /// A script over the object of two masters, neither of which has finished its initialization, and its
@@ -299,7 +281,7 @@ fn a_line_of_one_byte_more_than_the_limit(rt: HostRuntime) -> Result<(), Fail> {
     script.extend_from_slice(b"\nipi 1 1")?;
     script.extend_from_slice(&spaces)?;
     let text = "1 reply 1 0 65537 0 0\nfault line 2 4\n";
-    let whole = joined(rt.alloc(), &[LOADED, text])?;
+    let whole = joined(rt.alloc(), &[LABORATORY_LOADED, text])?;
     check(
         &rt,
         &replay_of(LABORATORY, &script),

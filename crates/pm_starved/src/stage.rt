@@ -6,7 +6,7 @@ ghost use Rattle.pm_device.specs.Model.{moment_of};
 
 use pm_base::{Exit, NoMemory};
 use pm_device::ModelDevice;
-use pm_fixtures::{LABORATORY, bytes_of, model, put};
+use pm_fixtures::{LABORATORY, SMALL, SMALL_TOPOLOGY, bytes_of, model, put};
 use pm_io::{MemInputs, MemSink};
 use pm_modules::{Echo, ModuleOf, ModulesOf};
 use pm_tasks::{Counter, TasksOf};
@@ -48,25 +48,6 @@ irq 46
 gic 2
 ";
 
-/// An object of a small chip, of a master that may use the slave, and has it at first.
-const SMALL: &[u32] = &[2, 2, 1, 257, 1, 1, 1, 100, 0, 0, 258, 1, 100, 1, 1];
-
-/// The text of a small chip's topology.
-const TOPOLOGY: &str = "power 62 none 1 20 3000
-power 1 62 0 30 500
-proc 2 1 300 400
-proc 7 62 100 200
-proc 8 62 100 200
-slave 100 62
-state 0 1000 0 0
-state 1 0 1 5
-line 100 100
-owner 1 2
-owner 6 7
-owner 7 7
-owner 8 8
-";
-
 /// How many bytes the text of a run has at most.
 const ROOM: u32 = 65_536;
 
@@ -99,7 +80,7 @@ pub(crate) fn new_shared(alloc: Global) -> Result<Shared, NoMemory> {
     put(&mut inputs, "text", TEXT.as_bytes())?;
     put(&mut inputs, "script", SCRIPT.as_bytes())?;
     put_words(alloc, &mut inputs, "small", SMALL)?;
-    put(&mut inputs, "topo", TOPOLOGY.as_bytes())?;
+    put(&mut inputs, "topo", SMALL_TOPOLOGY.as_bytes())?;
     let mut modules = ModulesOf::new(alloc)?;
     let _added = modules.add(ModuleOf::new(256, 259, Echo));
     Ok(Shared { inputs, modules })

@@ -2,63 +2,21 @@
 
 ghost use Rattle.std.specs.Prelude.{[]};
 
-use super::checks::check;
+use super::cases::{Case, check_cases, check_each_length};
 use super::running::run;
 use pm_base::{Exit, Failed};
-use pm_fixtures::{ALONE, Asked, OBJECT, STARTED, bytes_of, replay_of};
+use pm_fixtures::{
+    ALONE, Asked, LABORATORY, LABORATORY_LOADED, LABORATORY_SETTLED, OBJECT, STARTED, bytes_of,
+    joined, replay_of,
+};
 use pm_io::Sink;
 use std::alloc::Global;
 use std::process::Abort;
 use std::test::Fail;
 
-/// Runs what is asked over a sink of each length up to the whole text, which takes as much of it. Where
-/// the sink fails within the body the exit is WriteFault; within the fault line, also before its first
-/// byte, it stays.
-pub(crate) fn check_each_length(
-    rt: &(impl Abort + AllocGlobal),
-    asked: &Asked,
-    body: &[u8],
-    fault: &str,
-    exit: Exit,
-) -> Result<(), Fail> {
-    let mut text = Vec::from_slice(rt.alloc(), body)?;
-    text.extend_from_slice(fault.as_bytes())?;
-    for length in 0..body.len() {
-        check_length(rt, asked, &text, length, Exit::WriteFault)?;
-    }
-    for length in body.len()..text.len() {
-        check_length(rt, asked, &text, length, exit)?;
-    }
-    check_length(rt, asked, &text, text.len(), exit)
-}
-
-/// Runs what is asked over a sink of one length.
-fn check_length(
-    rt: &(impl Abort + AllocGlobal),
-    asked: &Asked,
-    text: &[u8],
-    length: usize,
-    exit: Exit,
-) -> Result<(), Fail> {
-    let front = text.get(..length).ok_or("a front")?;
-    check(rt, asked, u32::try_from(length).ok(), front, exit)
-}
-
 const SMALL: &[u32] = &[3, 1, 1, 7, 0x101, 1, 1, 1, 100, 0, 0];
 
 const SMALL_TEXT: &str = "header 7\nsection masters\nmaster 1 1 100 0 0\n";
-
-/// Words, an object, the bytes of a script or of a text, the input and the byte at which a read fails,
-/// the body, the fault line and the exit.
-type Case = (
-    &'static str,
-    &'static [u32],
-    &'static str,
-    &'static [(u32, u32)],
-    &'static str,
-    &'static str,
-    Exit,
-);
 
 const REPLAY: &str = "replay obj script";
 
@@ -231,17 +189,7 @@ static EXITS: [Case; 16] = [
 
 #[test]
 fn a_sink_of_each_length_under_each_exit(rt: HostRuntime) -> Result<(), Fail> {
-    for (words, object, script, failing, body, fault, exit) in &EXITS {
-        let asked = Asked {
-            words,
-            object,
-            script: script.as_bytes(),
-            failing,
-            topology: &[],
-        };
-        check_each_length(&rt, &asked, body.as_bytes(), fault, *exit)?;
-    }
-    Ok(())
+    check_cases(&rt, &EXITS)
 }
 
 #[test]
@@ -255,6 +203,24 @@ fn a_sink_of_each_length_under_an_object(rt: HostRuntime) -> Result<(), Fail> {
         topology: &[],
     };
     check_each_length(&rt, &asked, &body, "", Exit::Done)
+}
+
+/// What is written of a line in which a serial port is requested, and the closing table.
+const REQUESTED: &str = "2 set 33 0 1
+2 reply 1 0 0 0 0
+end power 1 1 1
+end proc 2 1 1
+end power 10 1 1
+end slave 33 1 1
+end power 62 1 1
+";
+
+#[test]
+fn a_sink_of_each_length_under_several_lines(rt: HostRuntime) -> Result<(), Fail> {
+    let text = [LABORATORY_LOADED, LABORATORY_SETTLED, REQUESTED];
+    let text = joined(rt.alloc(), &text)?;
+    let asked = replay_of(LABORATORY, b"ipi 1 21\nipi 1 13 33 1 0 2\n");
+    check_each_length(&rt, &asked, &text, "", Exit::Done)
 }
 
 /// How a sink takes pieces.
@@ -323,8 +289,7 @@ fn run_odd(alloc: Global, way: Way) -> Result<(OddSink, Exit), Fail> {
 }
 
 fn check_text(rt: &impl Abort, exit: Exit, text: &[u8]) {
-    assert_eq!(rt; exit, Exit::Done);
-    assert_eq!(rt; text, TEXT.as_bytes());
+    assert_eq!(rt; (exit, text), (Exit::Done, TEXT.as_bytes()));
 }
 
 #[test]
@@ -335,8 +300,7 @@ fn a_sink_that_takes_little_at_a_time(rt: HostRuntime) -> Result<(), Fail> {
 }
 
 fn check_stalls(rt: &impl Abort, exit: Exit, stalls: u64) {
-    assert_eq!(rt; exit, Exit::WriteFault);
-    assert_eq!(rt; stalls, 1);
+    assert_eq!(rt; (exit, stalls), (Exit::WriteFault, 1));
 }
 
 #[test]
@@ -350,8 +314,11 @@ fn a_sink_that_takes_nothing(rt: HostRuntime) -> Result<(), Fail> {
 static BEFORE: [usize; 12] = [0, 86, 130, 164, 195, 204, 220, 235, 251, 266, 283, 300];
 
 fn check_taken(rt: &impl Abort, writes: u32, exit: Exit, found: usize, taken: usize) {
-    assert_eq!(rt; exit, Exit::WriteFault, "after {writes} writes");
-    assert_eq!(rt; found, taken, "after {writes} writes");
+    assert_eq!(rt;
+        (exit, found),
+        (Exit::WriteFault, taken),
+        "after {writes} writes"
+    );
 }
 
 #[test]

@@ -2,28 +2,10 @@
 
 use super::checks::check;
 use pm_base::Exit;
-use pm_fixtures::{OBJECT, joined, replay_of};
+use pm_fixtures::{OBJECT, OBJECT_CLOSED, OBJECT_LOADED, joined, replay_of};
 use pm_script::SCRIPT_LIMIT;
 use std::alloc::{AllocError, Global};
 use std::test::Fail;
-
-/// What is written at load, and the closing table.
-const LOAD: &str = "0 set 10 0 1
-0 set 62 0 1
-0 set 1 0 1
-0 set 2 0 1
-0 set 11 0 2
-0 set 33 0 1
-0 run 2 0
-";
-
-const CLOSING: &str = "end power 1 1 1
-end proc 2 1 1
-end power 10 1 1
-end slave 11 2 2
-end slave 33 1 1
-end power 62 1 1
-";
 
 /// A script of the most bytes: comments of 255 bytes with their line feeds.
 fn script_of_the_limit(alloc: Global) -> Result<Vec<u8>, AllocError> {
@@ -40,7 +22,7 @@ fn script_of_the_limit(alloc: Global) -> Result<Vec<u8>, AllocError> {
 #[test]
 fn a_script_of_the_limit(rt: HostRuntime) -> Result<(), Fail> {
     let script = script_of_the_limit(rt.alloc())?;
-    let text = joined(rt.alloc(), &[LOAD, CLOSING])?;
+    let text = joined(rt.alloc(), &[OBJECT_LOADED, OBJECT_CLOSED])?;
     check(&rt, &replay_of(OBJECT, &script), None, &text, Exit::Done)
 }
 
@@ -54,7 +36,7 @@ fn longer_script(alloc: Global) -> Result<Vec<u8>, AllocError> {
 #[test]
 fn a_script_of_one_byte_more_than_the_limit(rt: HostRuntime) -> Result<(), Fail> {
     let script = longer_script(rt.alloc())?;
-    let text = joined(rt.alloc(), &[LOAD, "fault size\n"])?;
+    let text = joined(rt.alloc(), &[OBJECT_LOADED, "fault size\n"])?;
     check(
         &rt,
         &replay_of(OBJECT, &script),
@@ -70,7 +52,7 @@ fn a_script_of_one_byte_more_than_the_limit(rt: HostRuntime) -> Result<(), Fail>
 fn such_a_script_over_a_sink_of_each_side_of_the_body(rt: HostRuntime) -> Result<(), Fail> {
     let script = longer_script(rt.alloc())?;
     let asked = replay_of(OBJECT, &script);
-    let body = LOAD.as_bytes();
+    let body = OBJECT_LOADED.as_bytes();
     let cut = body.get(..85).ok_or("all but the last byte")?;
     check(&rt, &asked, Some(85), cut, Exit::WriteFault)?;
     check(&rt, &asked, Some(86), body, Exit::TooLarge)

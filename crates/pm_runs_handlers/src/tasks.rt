@@ -1,9 +1,11 @@
 //! Runs with timed tasks whose handlers are a type of the tests.
 
 use super::checks::check_with;
-use super::steps::{LOADED, SETTLED as LABORATORY_SETTLED};
 use pm_base::{Exit, NoMemory};
-use pm_fixtures::{BOXES, BOXES_CLOSED, BOXES_SETTLED, LABORATORY, joined, replay_of};
+use pm_fixtures::{
+    BOXES, BOXES_CLOSED, BOXES_SETTLED, LABORATORY, LABORATORY_LOADED, LABORATORY_SETTLED, joined,
+    replay_of,
+};
 use pm_modules::Modules;
 use pm_tasks::{Handler, Tasks};
 use std::alloc::Global;
@@ -242,7 +244,7 @@ fn the_calls_of_a_tick_come_after_its_other_lines(rt: HostRuntime) -> Result<(),
         LABORATORY,
         "boot 7 0\ntask 0 50\ntask 1 100\nipi 1 6 7 2 50 0\ntick 99\ntick 1\n",
         &[
-            LOADED,
+            LABORATORY_LOADED,
             LABORATORY_SETTLED,
             "2 set 6 0 1\n2 set 7 0 1\n2 run 7 0\n5 call 7 30 201 50 0 100\n6 task 0 99 1\n",
             "7 reply 1 2006 0 0 0\n7 task 0 100 2\n7 task 1 100 1\n",

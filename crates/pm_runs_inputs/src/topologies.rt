@@ -3,7 +3,7 @@
 use super::checks::check;
 use super::running::run;
 use pm_base::Exit;
-use pm_fixtures::{Asked, LABORATORY, joined};
+use pm_fixtures::{Asked, LABORATORY, SMALL, joined};
 use pm_io::MemSink;
 use std::process::Abort;
 use std::test::Fail;
@@ -18,9 +18,6 @@ const SLAVE: &str = "slave 100 62\nstate 0 1000 0 0\nstate 1 0 1 5\nline 100 100
 const OWNERS: &str = "owner 1 2\nowner 6 7\nowner 7 7\n";
 
 const LAST: &str = "owner 8 8\n";
-
-/// An object of a master that may use the slave, and has it at first.
-const SMALL: &[u32] = &[2, 2, 1, 257, 1, 1, 1, 100, 0, 0, 258, 1, 100, 1, 1];
 
 const SCRIPT: &str = "ipi 1 21\n";
 

@@ -1,7 +1,7 @@
 //! Runs that write what a master can reach.
 
-use super::checks::{check, check_uncommanded};
-use super::sinks::check_each_length;
+use super::cases::{Case, asked_of, check_cases, check_cases_uncommanded, check_each_fault};
+use super::checks::check;
 use pm_base::Exit;
 use pm_fixtures::{Asked, LABORATORY, OBJECT};
 use std::test::Fail;
@@ -13,25 +13,24 @@ power 6 above 7
 power 62 above 7
 ";
 
-/// Words, an object, the byte of it at which a read fails, the body, the fault line and the exit.
-type Case = (
-    &'static str,
-    &'static [u32],
-    &'static [(u32, u32)],
-    &'static str,
-    &'static str,
-    Exit,
-);
-
 const SEVEN: &str = "reach obj 7";
 
 static EXITS: [Case; 12] = [
-    (SEVEN, OBJECT, &[], SHARED, "", Exit::Done),
+    (SEVEN, OBJECT, "", &[], SHARED, "", Exit::Done),
     // words without a form
-    ("reach obj", OBJECT, &[], "", "fault usage\n", Exit::Usage),
+    (
+        "reach obj",
+        OBJECT,
+        "",
+        &[],
+        "",
+        "fault usage\n",
+        Exit::Usage,
+    ),
     (
         "reach obj 7 script 7",
         OBJECT,
+        "",
         &[],
         "",
         "fault usage\n",
@@ -41,6 +40,7 @@ static EXITS: [Case; 12] = [
     (
         SEVEN,
         &[2, 1],
+        "",
         &[],
         "",
         "fault object 3 2\n",
@@ -49,6 +49,7 @@ static EXITS: [Case; 12] = [
     (
         "reach obj x",
         &[2, 1],
+        "",
         &[],
         "",
         "fault object 3 2\n",
@@ -58,6 +59,7 @@ static EXITS: [Case; 12] = [
     (
         "reach obj 8",
         LABORATORY,
+        "",
         &[],
         "",
         "fault node\n",
@@ -66,6 +68,7 @@ static EXITS: [Case; 12] = [
     (
         "reach obj 4294967303",
         OBJECT,
+        "",
         &[],
         "",
         "fault node\n",
@@ -74,6 +77,7 @@ static EXITS: [Case; 12] = [
     (
         "reach obj x",
         OBJECT,
+        "",
         &[],
         "",
         "fault node\n",
@@ -83,6 +87,7 @@ static EXITS: [Case; 12] = [
     (
         "reach no 7",
         OBJECT,
+        "",
         &[],
         "",
         "fault read\n",
@@ -91,6 +96,7 @@ static EXITS: [Case; 12] = [
     (
         "reach no x",
         OBJECT,
+        "",
         &[],
         "",
         "fault read\n",
@@ -99,6 +105,7 @@ static EXITS: [Case; 12] = [
     (
         SEVEN,
         OBJECT,
+        "",
         &[(0, 4)],
         "",
         "fault read\n",
@@ -107,6 +114,7 @@ static EXITS: [Case; 12] = [
     (
         "reach obj 8",
         &[2, 1],
+        "",
         &[(0, 8)],
         "",
         "fault read\n",
@@ -114,40 +122,16 @@ static EXITS: [Case; 12] = [
     ),
 ];
 
-fn asked_of(case: &Case) -> Asked<'static> {
-    let (words, object, failing, _, _, _) = *case;
-    Asked {
-        words,
-        object,
-        script: b"",
-        failing,
-        topology: &[],
-    }
-}
-
 #[test]
 fn a_sink_of_each_length_under_each_exit(rt: HostRuntime) -> Result<(), Fail> {
-    for case in &EXITS {
-        let (_, _, _, body, fault, exit) = case;
-        check_each_length(&rt, &asked_of(case), body.as_bytes(), fault, *exit)?;
-    }
-    Ok(())
+    check_cases(&rt, &EXITS)
 }
 
 #[test]
 fn an_object_that_fails_at_each_byte(rt: HostRuntime) -> Result<(), Fail> {
-    for at in 0..93u32 {
-        let failing = [(0, at)];
-        let asked = Asked {
-            failing: &failing,
-            topology: &[],
-            ..asked_of(&EXITS[0])
-        };
-        check(&rt, &asked, None, b"fault read\n", Exit::ReadFault)?;
-    }
+    check_each_fault(&rt, &EXITS[0], 0, 93, b"fault read\n")?;
     let asked = Asked {
         failing: &[(0, 93)],
-        topology: &[],
         ..asked_of(&EXITS[0])
     };
     check(&rt, &asked, None, SHARED.as_bytes(), Exit::Done)
@@ -155,8 +139,5 @@ fn an_object_that_fails_at_each_byte(rt: HostRuntime) -> Result<(), Fail> {
 
 #[test]
 fn no_device_is_commanded(rt: HostRuntime) -> Result<(), Fail> {
-    for case in &EXITS {
-        check_uncommanded(&rt, &asked_of(case))?;
-    }
-    Ok(())
+    check_cases_uncommanded(&rt, &EXITS)
 }

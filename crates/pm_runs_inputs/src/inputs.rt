@@ -1,8 +1,13 @@
 //! Runs over inputs that fail.
 
-use super::checks::{check, run_over};
+use super::checks::{check, check_joined};
+use super::running::run_with;
 use pm_base::Exit;
-use pm_fixtures::{ALONE, Asked, node, replay_of};
+use pm_fixtures::{
+    ALONE, Asked, LABORATORY, LABORATORY_LOADED, LABORATORY_SETTLED, STARTED, model, node,
+    replay_of,
+};
+use pm_io::MemSink;
 use std::process::Abort;
 use std::test::Fail;
 
@@ -46,34 +51,77 @@ fn an_input_that_fails(rt: HostRuntime) -> Result<(), Fail> {
     Ok(())
 }
 
-/// The inputs, and what is written where their reads fail from one byte to before another one.
-static SPANS: [(u32, u32, u32, &str); 3] = [
-    (0, 0, 41, "fault read\n"),
-    (
-        1,
-        0,
-        11,
-        "0 set 62 0 1\n0 set 6 0 1\n0 set 7 0 1\n0 run 7 0\nfault read\n",
-    ),
-    (
-        1,
-        11,
-        22,
-        "0 set 62 0 1\n0 set 6 0 1\n0 set 7 0 1\n0 run 7 0\n1 drop 8\nfault read\n",
-    ),
+/// An object, a script, the input whose reads fail from one byte to before another one, and what is written.
+type Span = (
+    &'static [u32],
+    &'static [u8],
+    u32,
+    u32,
+    u32,
+    &'static [&'static str],
+);
+
+const FAULT: &str = "fault read\n";
+
+static SPANS: [Span; 3] = [
+    (ALONE, SCRIPT, 0, 0, 41, &[FAULT]),
+    (ALONE, SCRIPT, 1, 0, 11, &[STARTED, FAULT]),
+    (ALONE, SCRIPT, 1, 11, 22, &[STARTED, "1 drop 8\n", FAULT]),
 ];
+
+/// A script in which a serial port is requested, and what is written of it.
+const TWO_LINES: &[u8] = b"ipi 1 21\nipi 1 13 33 1 0 2\n";
+
+const ONE_LINE: &[u8] = b"ipi 1 21\n";
+
+const LOADED: &str = LABORATORY_LOADED;
+
+const SETTLED: &str = LABORATORY_SETTLED;
+
+const REQUESTED: &str = "2 set 33 0 1\n2 reply 1 0 0 0 0\n";
+
+static SPANS_OF_LINES: [Span; 5] = [
+    // the object has 160 bytes
+    (LABORATORY, TWO_LINES, 0, 0, 161, &[FAULT]),
+    (LABORATORY, TWO_LINES, 1, 0, 9, &[LOADED, FAULT]),
+    (LABORATORY, TWO_LINES, 1, 9, 27, &[LOADED, SETTLED, FAULT]),
+    // the end of a script is read, and so fails
+    (
+        LABORATORY,
+        TWO_LINES,
+        1,
+        27,
+        28,
+        &[LOADED, SETTLED, REQUESTED, FAULT],
+    ),
+    (LABORATORY, ONE_LINE, 1, 9, 10, &[LOADED, SETTLED, FAULT]),
+];
+
+/// Runs a replay once for each byte of a span, at which a read fails.
+fn check_span(rt: &(impl Abort + AllocGlobal), span: &Span) -> Result<(), Fail> {
+    let (object, script, input, first, end, pieces) = *span;
+    for at in first..end {
+        let asked = Asked {
+            failing: &[(input, at)],
+            ..replay_of(object, script)
+        };
+        check_joined(rt, &asked, pieces, Exit::ReadFault)?;
+    }
+    Ok(())
+}
 
 #[test]
 fn an_input_that_fails_at_each_byte(rt: HostRuntime) -> Result<(), Fail> {
-    for (input, first, end, text) in &SPANS {
-        for at in *first..*end {
-            let asked = Asked {
-                failing: &[(*input, at)],
-                topology: &[],
-                ..replay_of(ALONE, SCRIPT)
-            };
-            check(&rt, &asked, None, text.as_bytes(), Exit::ReadFault)?;
-        }
+    for span in &SPANS {
+        check_span(&rt, span)?;
+    }
+    Ok(())
+}
+
+#[test]
+fn an_input_of_several_lines_that_fails_at_each_byte(rt: HostRuntime) -> Result<(), Fail> {
+    for span in &SPANS_OF_LINES {
+        check_span(&rt, span)?;
     }
     Ok(())
 }
@@ -92,7 +140,9 @@ static BEGUN: [(&str, (u32, u32), u32); 7] = [
 
 /// A run after which LPD has this value.
 fn check_value(rt: &(impl Abort + AllocGlobal), asked: &Asked, value: u32) -> Result<(), Fail> {
-    let device = run_over(rt, asked)?;
+    let mut out = MemSink::new(rt.alloc(), None)?;
+    let mut device = model(rt.alloc())?;
+    run_with(rt.alloc(), asked, &mut out, &mut *device)?;
     assert_eq!(rt; device.value(node(62)), value, "{}", asked.words);
     Ok(())
 }

@@ -15,7 +15,7 @@ use std::test::Fail;
 struct Telling;
 
 impl Responder for Telling {
-    ghost use Rattle.pm_runs_lines.specs.Handlers.{told};
+    ghost use Rattle.pm_runs_handlers.specs.Handlers.{told};
 
     ghost says = { λ _. told };
 
@@ -35,7 +35,7 @@ struct Constant {
 }
 
 impl Responder for Constant {
-    ghost use Rattle.pm_runs_lines.specs.Handlers.{constant};
+    ghost use Rattle.pm_runs_handlers.specs.Handlers.{constant};
 
     ghost says = { λ responder. constant responder.word };
 

@@ -1,9 +1,8 @@
 //! Runs that compare the run of a script with the run without the messages of a master.
 
-use super::checks::{check, check_uncommanded};
-use super::sinks::check_each_length;
+use super::cases::{Case, check_cases, check_cases_uncommanded, check_each_fault};
 use pm_base::Exit;
-use pm_fixtures::{ALONE, Asked, LABORATORY, OBJECT, joined};
+use pm_fixtures::{ALONE, LABORATORY, OBJECT, joined};
 use std::test::Fail;
 
 /// What master 7 reaches in the object of two masters.
@@ -23,18 +22,6 @@ power 62 above 7
 differ slave 11
 steps 4
 ";
-
-/// Words, an object, a script, the input and the byte at which a read fails, the body, the fault line and the
-/// exit.
-type Case = (
-    &'static str,
-    &'static [u32],
-    &'static str,
-    &'static [(u32, u32)],
-    &'static str,
-    &'static str,
-    Exit,
-);
 
 const SEVEN: &str = "isolate obj script 7";
 
@@ -231,46 +218,18 @@ static EXITS: [Case; 22] = [
     ),
 ];
 
-fn asked_of(case: &Case) -> Asked<'static> {
-    let (words, object, script, failing, _, _, _) = *case;
-    Asked {
-        words,
-        object,
-        script: script.as_bytes(),
-        failing,
-        topology: &[],
-    }
-}
-
 #[test]
 fn a_sink_of_each_length_under_each_exit(rt: HostRuntime) -> Result<(), Fail> {
-    for case in &EXITS {
-        let (_, _, _, _, body, fault, exit) = case;
-        check_each_length(&rt, &asked_of(case), body.as_bytes(), fault, *exit)?;
-    }
-    Ok(())
+    check_cases(&rt, &EXITS)
 }
 
 #[test]
 fn a_script_that_fails_at_each_byte(rt: HostRuntime) -> Result<(), Fail> {
-    let text = [SHARED, "fault read\n"];
-    let text = joined(rt.alloc(), &text)?;
-    for at in 0..55u32 {
-        let failing = [(1, at)];
-        let asked = Asked {
-            failing: &failing,
-            topology: &[],
-            ..asked_of(&EXITS[0])
-        };
-        check(&rt, &asked, None, &text, Exit::ReadFault)?;
-    }
-    Ok(())
+    let text = joined(rt.alloc(), &[SHARED, "fault read\n"])?;
+    check_each_fault(&rt, &EXITS[0], 1, 55, &text)
 }
 
 #[test]
 fn no_device_is_commanded(rt: HostRuntime) -> Result<(), Fail> {
-    for case in &EXITS {
-        check_uncommanded(&rt, &asked_of(case))?;
-    }
-    Ok(())
+    check_cases_uncommanded(&rt, &EXITS)
 }

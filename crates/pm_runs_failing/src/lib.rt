@@ -1,0 +1,19 @@
+//! Tests of whole runs over devices that fail commands, each a table of runs and one loop over it.
+#![tactic(auto)]
+
+#[cfg(test)]
+mod checks;
+#[cfg(test)]
+mod commands;
+#[cfg(test)]
+mod each_command;
+#[cfg(test)]
+mod forcing;
+#[cfg(test)]
+mod retrying;
+#[cfg(test)]
+mod running;
+#[cfg(test)]
+mod status;
+#[cfg(test)]
+mod steps;
