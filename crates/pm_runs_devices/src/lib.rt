@@ -1,4 +1,4 @@
-//! Tests of whole runs over devices that follow the commands, but for nodes that are broken, each a table of runs and one loop over it.
+//! Tests of whole runs over devices that follow each command, but for nodes that are broken.
 #![tactic(auto)]
 
 #[cfg(test)]

@@ -1,4 +1,4 @@
-//! Tests of whole runs over devices that fail commands, each a table of runs and one loop over it.
+//! Tests of whole runs over devices that fail commands.
 #![tactic(auto)]
 
 #[cfg(test)]

@@ -1,5 +1,4 @@
-//! Tests of whole runs over inputs: ones that fail, scripts and objects at their limits, objects that are cut, and topologies, each
-//! a table of runs and one loop over it.
+//! Tests of whole runs over inputs: ones that fail, that are cut or at their limits, and the topology of a file.
 #![tactic(auto)]
 
 #[cfg(test)]

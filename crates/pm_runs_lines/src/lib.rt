@@ -1,4 +1,4 @@
-//! Tests of whole runs: what each kind of line of a script does, each a table of runs and one loop over it.
+//! Tests of whole runs: what each kind of line of a script does.
 #![tactic(auto)]
 
 #[cfg(test)]

@@ -1,5 +1,4 @@
-//! Tests of whole runs over sinks of each length, and over sinks that fail or stall: replays, what a master can reach, two worlds,
-//! and scripts that are made, each a table of runs and one loop over it.
+//! Tests of whole runs over sinks, of each length and such that fail or stall: replays, reach, two worlds, made scripts.
 #![tactic(auto)]
 
 #[cfg(test)]

@@ -1,4 +1,4 @@
-//! Tests of steps in which one master acts on others: it asks them to suspend, is told of them, or puts another object in force.
+//! Tests of steps in which a master acts on others: it asks them to suspend, is told of them, or changes the object.
 #![tactic(auto)]
 
 #[cfg(test)]

@@ -1,5 +1,4 @@
-//! Tests of the lines of a step and of a script line: each answer, command, start, late reply, callback, full box and
-//! fault is its line of text.
+//! Tests of the lines of a step, of a script line and of a fault.
 #![tactic(auto)]
 
 #[cfg(test)]

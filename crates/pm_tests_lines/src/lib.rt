@@ -1,5 +1,4 @@
-//! Tests of lines, each a table of cases and one loop over it: how they are taken of an input, their words and numbers, and what a
-//! line of a script means.
+//! Tests of lines: how they are taken of an input, their words and numbers, and what a line of a script means.
 #![tactic(auto)]
 
 #[cfg(test)]
