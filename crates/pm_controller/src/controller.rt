@@ -5,20 +5,22 @@ ghost use Rattle.std.specs.List.{list_all};
 ghost use Rattle.pm_topology.specs.WellFormed.{IsWellFormed};
 ghost use Rattle.pm_state.specs.Units.{units};
 ghost use Rattle.pm_state.specs.Values.{master_place, value};
-ghost use Rattle.pm_core.specs.Outbox.{HasRoomFor, outputs_in};
+ghost use Rattle.pm_core.specs.Outbox.{HasRoom, HasRoomFor, Holds, outputs_in};
+ghost use Rattle.pm_core.specs.Step.{outputs_at_load};
 ghost use Rattle.pm_apply.specs.Carried.{KeepsRest};
 ghost use Rattle.pm_apply.specs.Left.{turns_left};
 ghost use Rattle.pm_apply.specs.Plan.{done_as, plan};
+ghost use Rattle.pm_record.specs.Record.{IsRecordOf, at_zero};
 ghost use Rattle.pm_trace.specs.Step.{core_lines, notices_in};
 ghost use Rattle.pm_controller.specs.Beyond.{is_beyond};
 ghost use Rattle.pm_controller.specs.Controls.{Controls, coming_where, is_settled, mode_of, mode_where, part_with, stands_at, value_of};
 ghost use Rattle.pm_controller.specs.Stands.{IsAsking, IsUnderWay, Stands};
 ghost use Rattle.pm_controller.specs.Status.{Tells, status_of};
-ghost use Rattle.pm_controller.specs.Steps.{IsLoaded, IsNext, TakesAnswer, TakesEvent};
+ghost use Rattle.pm_controller.specs.Steps.{IsLoaded, IsNext, StepBegins, TakesAnswer, TakesEvent};
 
 use crate::status::{NodeStatus, status_of};
 use pm_apply::{Carrying, each_part_is_safe, marks_suffice};
-use pm_base::{Command, Event, List, Message, Mode, NoMemory, NodeId, Unit};
+use pm_base::{Command, Event, List, Message, Mode, NoMemory, NodeId, Unit, with};
 use pm_beyond::is_message_beyond;
 use pm_core::{Book, Outbox};
 use pm_object::Object;
@@ -62,22 +64,11 @@ impl Controller {
         requires formed { IsWellFormed topology }
         ensures loaded { IfOk result (IsLoaded object topology) }
     {
-        units_stand_in_order();
-        kinds_are_exact();
-        unit_maps::<KeptValue>();
-        let masters = object.masters.len();
-        let mut kept = Kept::load(alloc, &topology)?;
-        let mut outbox = Outbox::load(alloc, &topology, masters)?;
-        let book = Book::load(alloc, object, List::new(alloc), topology, &mut outbox)?;
-        let mut left = Carrying::begin_all(&mut kept, &book, &outbox);
-        let waits = find(&mut left, &mut kept, &book, &mut outbox);
-        Ok(Controller {
-            book,
-            kept,
-            outbox,
-            left,
-            waits,
-        })
+        let beside = beside_of(alloc, &topology, object.masters.len());
+        let ((object, topology), (kept, mut outbox)) = with((object, topology), beside)?;
+        let book = Book::load(alloc, object, List::new(alloc), topology, &mut outbox);
+        let ((kept, outbox), book) = with((kept, outbox), book)?;
+        Ok(begun(book, kept, outbox))
     }
 
     /// One core event: a message of a master, a boot, a wait, an interrupt, or time that passes. Its step begins. No memory is
@@ -254,6 +245,40 @@ fn all_stand(kept: &Kept, book: &Book) -> bool
         }
     }
     true
+}
+
+/// The record of a device that took nothing yet, and an outbox, for a chip and so many masters.
+fn beside_of(alloc: Global, t: &Topology, masters: usize) -> Result<(Kept, Outbox), NoMemory>
+    requires formed { IsWellFormed t.now }
+    ensures first { IfOk result (λ beside. beside.0 ≡ at_zero t.now) }
+    ensures known { IfOk result (λ beside. IsRecordOf t.now beside.0) }
+    ensures room { IfOk result (λ beside. HasRoom t.now masters beside.1) }
+{
+    let kept = Kept::load(alloc, t)?;
+    let outbox = Outbox::load(alloc, t, masters);
+    with(kept, outbox)
+}
+
+/// The controller of a book at load, whose step 0 begins.
+fn begun(book: Book, mut kept: Kept, mut outbox: Outbox) -> Controller
+    requires known { IsRecordOf book.fixed.topology kept }
+    requires out { Holds (outputs_at_load book) outbox }
+    requires ready { HasRoomFor book outbox }
+    ensures book { result.book ≡ book }
+    ensures step { StepBegins kept (outputs_at_load result.book) result }
+{
+    units_stand_in_order();
+    kinds_are_exact();
+    unit_maps::<KeptValue>();
+    let mut left = Carrying::begin_all(&mut kept, &book, &outbox);
+    let waits = find(&mut left, &mut kept, &book, &mut outbox);
+    Controller {
+        book,
+        kept,
+        outbox,
+        left,
+        waits,
+    }
 }
 
 /// Finds the next command of a step. Where none is left the step ends.
