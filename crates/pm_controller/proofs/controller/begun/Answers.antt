@@ -1,5 +1,5 @@
 use Rattle.pm_core.specs.Step.{outputs_at_load}
-use Rattle.pm_apply.proofs.Below.{ChipLaws}
+use Rattle.pm_record.proofs.Below.{ChipLaws}
 use Rattle.pm_controller.specs.Controls.{Controls}
 use Rattle.pm_controller.proofs.StepLemmas.{step_begins}
 use Rattle.pm_controller.proofs.WayLemmas.{way_start}
