@@ -1,5 +1,5 @@
 -- The turns of a step are taken in three parts: power nodes go up, the other units take their values, power nodes go down.
-use Rattle.std.proofs.Common.{◌≡◌, ℕ, ◌+◌, ◌-◌, ◌<◌, ◌≤◌, ◌==◌, ◌&&◌, true, false, not, Option, Some, None, List, [], ◌∷◌, ◌++◌, length, map, take, slice_get, refl, sym, ap, subst, ◌∙◌, zero, suc, arith, inl, inr}
+use Rattle.std.proofs.Common.{Bool, ◌≡◌, ℕ, ◌+◌, ◌-◌, ◌<◌, ◌≤◌, ◌==◌, ◌&&◌, true, false, not, Option, Some, None, List, [], ◌∷◌, ◌++◌, length, map, take, slice_get, refl, sym, ap, subst, ◌∙◌, zero, suc, arith, inl, inr}
 use Rattle.std.specs.Prelude.{flat_map, reverse}
 use Rattle.std.specs.List.{list_all}
 use Rattle.std.specs.Option.{option_map, option_map_or}
@@ -38,7 +38,8 @@ use Rattle.pm_apply.proofs.TakesLemmas.{KeepsRest-trans, Takes-all, Takes-fits, 
 use Rattle.pm_apply.proofs.TurnsLemmas.{lowers, raises, settles}
 use Rattle.pm_record.proofs.EntryLemmas.{kept_at}
 use Rattle.pm_record.proofs.RecordLemmas.{lags_in-after_answer}
-use Rattle.pm_apply.proofs.VisitsLemmas.{Each, IsOpen, IsPulseOf, each_turn, has_at, no_lower, no_pulse, no_raise, no_settle, plan_open}
+use Rattle.pm_record.proofs.EntryLemmas.{has_at}
+use Rattle.pm_apply.proofs.VisitsLemmas.{Each, IsOpen, IsPulseOf, each_turn, no_lower, no_pulse, no_raise, no_settle, plan_open}
 
 pub KeepsRest-refl : (out : Outbox) → KeepsRest out out
 KeepsRest-refl out = record { room = refl; moved = refl; pulse = refl; starts = refl; late = refl; callbacks = refl; answer = refl }
@@ -132,28 +133,18 @@ module _ (laws : ChipLaws) (t : Topology) (values : Unit → ℕ) (pulse : Optio
     power_stands w p here rests = followed.ready.stands (Node p.node) (ap (λ us. has_in us (Node p.node)) followed.units ∙ power_is_listed laws t well w p here) rests
 
     -- a power node that doesn't lag, or isn't down in the record, doesn't go up
-    pub not_raised : (w : ℕ) → (power_lags t kept w && (power_value t kept w == 0)) ≡ false → due t values kept (PowerOn w) ≡ None
-    not_raised w none = at (slice_get t.powers w) refl none
-      where
-        at : (power : Option PowerDef) → slice_get t.powers w ≡ power
-            → (option_map_or (λ (p : PowerDef). lags_in kept (Node p.node)) power false && (option_map_or (λ (p : PowerDef). kept_value kept (Node p.node)) power 0 == 0)) ≡ false
-            → power_on t values kept power ≡ None
-        at None is none = refl
-        at (Some p) is none =
-            ap (λ b. where_due b (command (Node p.node) 1))
-            (no_rise_held (lags_in kept (Node p.node)) (kept_value kept (Node p.node)) (values (Node p.node)) (is_fed t kept p.parent) none (power_stands w p is))
+    pub not_raised : (w : ℕ) (p : PowerDef) → slice_get t.powers w ≡ Some p → (lags_in kept (Node p.node) && (kept_value kept (Node p.node) == 0)) ≡ false → due t values kept (PowerOn w) ≡ None
+    not_raised w p here none =
+        ap (power_on t values kept) here
+        ∙ ap (λ b. where_due b (command (Node p.node) 1))
+        (no_rise_held (lags_in kept (Node p.node)) (kept_value kept (Node p.node)) (values (Node p.node)) (is_fed t kept p.parent) none (power_stands w p here))
 
     -- and one that isn't up doesn't go down
-    pub not_lowered : (w : ℕ) → (power_lags t kept w && (power_value t kept w == 1)) ≡ false → due t values kept (PowerOff w) ≡ None
-    not_lowered w none = at (slice_get t.powers w) refl none
-      where
-        at : (power : Option PowerDef) → slice_get t.powers w ≡ power
-            → (option_map_or (λ (p : PowerDef). lags_in kept (Node p.node)) power false && (option_map_or (λ (p : PowerDef). kept_value kept (Node p.node)) power 0 == 1)) ≡ false
-            → power_off t values kept w power ≡ None
-        at None is none = refl
-        at (Some p) is none =
-            ap (λ b. where_due b (command (Node p.node) 0))
-            (no_fall_held (lags_in kept (Node p.node)) (kept_value kept (Node p.node)) (values (Node p.node)) (not (is_used t kept w)) none (power_stands w p is))
+    pub not_lowered : (w : ℕ) (p : PowerDef) → slice_get t.powers w ≡ Some p → (lags_in kept (Node p.node) && (kept_value kept (Node p.node) == 1)) ≡ false → due t values kept (PowerOff w) ≡ None
+    not_lowered w p here none =
+        ap (power_off t values kept w) here
+        ∙ ap (λ b. where_due b (command (Node p.node) 0))
+        (no_fall_held (lags_in kept (Node p.node)) (kept_value kept (Node p.node)) (values (Node p.node)) (not (is_used t kept w)) none (power_stands w p here))
 
   -- the unit at a place that doesn't lag
   record IdleThere (k : ℕ) : Type 0 where
@@ -277,3 +268,21 @@ unit_there units k within =
       | inl there ↦ (there.0, there.2)
       | inr past ↦ absurd (omega (arith, past.0, within))
     ]
+
+-- ---- the command of a power node by what is known of it
+
+-- one that is down in the record goes up where it is up in the book and is fed
+pub raised_is : (t : Topology) (values : Unit → ℕ) (kept : Kept) (w : ℕ) (p : PowerDef) (rises : Bool) → slice_get t.powers w ≡ Some p → kept_value kept (Node p.node) ≡ 0
+    → rises ≡ ((values (Node p.node) == 1) && is_fed t kept p.parent) → due t values kept (PowerOn w) ≡ where_due rises (command (Node p.node) 1)
+raised_is t values kept w p rises here down is =
+    ap (power_on t values kept) here
+    ∙ (ap (λ n. where_due ((values (Node p.node) == 1) && ((n == 0) && is_fed t kept p.parent)) (command (Node p.node) 1)) down
+    ∙ ap (λ b. where_due b (command (Node p.node) 1)) (sym is))
+
+-- one that is up in the record goes down where it is down in the book and isn't used
+pub lowered_is : (t : Topology) (values : Unit → ℕ) (kept : Kept) (w : ℕ) (p : PowerDef) (falls : Bool) → slice_get t.powers w ≡ Some p → kept_value kept (Node p.node) ≡ 1
+    → falls ≡ ((values (Node p.node) == 0) && not (is_used t kept w)) → due t values kept (PowerOff w) ≡ where_due falls (command (Node p.node) 0)
+lowered_is t values kept w p falls here up is =
+    ap (power_off t values kept w) here
+    ∙ (ap (λ n. where_due ((values (Node p.node) == 0) && ((n == 1) && not (is_used t kept w))) (command (Node p.node) 0)) up
+    ∙ ap (λ b. where_due b (command (Node p.node) 0)) (sym is))

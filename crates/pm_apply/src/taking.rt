@@ -149,6 +149,7 @@ fn settle<D: Device>(dev: &mut D, kept: &mut Kept, book: &Book, out: &mut Outbox
     book.stays_sound();
     let units = book.units();
     let mut place = kept.next_marked(0);
+    // the `i`-th marked unit stands at `place`, as long as no unit lost its mark; else the next one is searched for
     let mut i = 0;
     'units: while place < units {
         take_unit(dev, kept, book, out, place);
