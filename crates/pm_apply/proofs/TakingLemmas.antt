@@ -2,7 +2,7 @@
 use Rattle.std.proofs.Common.{Bool, ◌≡◌, ℕ, ◌+◌, ◌-◌, ◌<◌, ◌≤◌, ◌==◌, ◌&&◌, true, false, not, Option, Some, None, List, [], ◌∷◌, ◌++◌, length, map, take, slice_get, refl, sym, ap, subst, ◌∙◌, zero, suc, arith, inl, inr}
 use Rattle.std.specs.Prelude.{flat_map, reverse}
 use Rattle.std.specs.List.{list_all}
-use Rattle.std.specs.Option.{option_map, option_map_or}
+use Rattle.std.specs.Option.{option_map}
 use Rattle.std.proofs.lemmas.Bool.{and_from}
 use Rattle.std.proofs.lemmas.Grind.{flat_map-append}
 use Rattle.std.proofs.lemmas.List.Sums.{sum_by-append, sum_by-cons}
@@ -24,11 +24,11 @@ use Rattle.pm_apply.specs.declared.turns.Turn.{Turn}
 use Rattle.pm_apply.specs.declared.turns.Turn.TheVariants.{PowerOn, Apply, PowerOff}
 use Rattle.pm_apply.specs.Carried.{KeepsRest, Takes}
 use Rattle.pm_apply.specs.Left.{HaveNone, IsFollowed}
-use Rattle.pm_apply.specs.Plan.{Carried, answers_of, command, due, is_fed, is_used, plan, power_off, power_on, power_places, power_value, turns_of, where_due, with_pulse}
+use Rattle.pm_apply.specs.Plan.{Carried, answers_of, command, due, is_fed, is_used, plan, power_off, power_on, power_places, turns_of, where_due, with_pulse}
 use Rattle.pm_record.specs.Record.{Kept, kept_value, lags_in, supply_in}
 use Rattle.pm_apply.specs.Room.{most, most_of}
 use Rattle.pm_record.specs.Marks.{LagsNotAt, NoPowerLags}
-use Rattle.pm_apply.specs.Visits.{IsIdle, power_lags}
+use Rattle.pm_apply.specs.Visits.{IsIdle}
 use Rattle.pm_record.proofs.Below.{ChipLaws}
 use Rattle.pm_apply.proofs.IdleLemmas.{idle_none, no_fall_held, no_rise_held}
 use Rattle.pm_apply.proofs.OrdersUnits.{power_is_listed}

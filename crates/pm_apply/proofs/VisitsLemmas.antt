@@ -1,5 +1,5 @@
 -- What a step visits: a unit that isn't marked has no command, and the turns of a step leave that so.
-use Rattle.std.proofs.Common.{◌≡◌, ℕ, ◌-◌, ◌<◌, ◌≤◌, length, arith, Bool, true, false, ◌&&◌, cond, if◌then◌else◌, Option, Some, None, List, [], ◌∷◌, ◌++◌, map, slice_get, refl, sym, ap, subst, ◌∙◌, ◌⊎◌, inl, inr, zero, suc}
+use Rattle.std.proofs.Common.{◌≡◌, ℕ, ◌-◌, ◌<◌, ◌≤◌, length, arith, Bool, true, false, cond, if◌then◌else◌, Option, Some, None, List, [], ◌∷◌, ◌++◌, map, slice_get, refl, sym, ap, subst, ◌∙◌, ◌⊎◌, inl, inr, zero, suc}
 use Rattle.std.specs.Prelude.{⊤, IfSome, flat_map, reverse}
 use Rattle.std.specs.List.{list_all}
 use Rattle.std.specs.Option.{option_map, option_map_or}
@@ -20,7 +20,7 @@ use Rattle.pm_record.proofs.Below.{ChipLaws}
 use Rattle.pm_record.specs.declared.kept.KeptValue.{KeptValue}
 use Rattle.pm_apply.specs.declared.turns.Turn.{Turn}
 use Rattle.pm_apply.specs.declared.turns.Turn.TheVariants.{PowerOn, Pulse, Apply, PowerOff}
-use Rattle.pm_record.specs.Record.{Kept, idle, keep, kept_value, lags_in, after_answer}
+use Rattle.pm_record.specs.Record.{Kept, idle, kept_value, lags_in, after_answer}
 use Rattle.pm_apply.specs.Plan.{Carried, power_places, unit_turns, due, later_answers, next_answer, plan, pulse_turn, take_turn, turns_of, with_pulse}
 use Rattle.pm_record.specs.Marks.{LagsNotAt, StandsAt, StandsElsewhere, pulsed}
 use Rattle.pm_apply.specs.Visits.{IsIdle, IsIdleAt, power_lags, IsReady}

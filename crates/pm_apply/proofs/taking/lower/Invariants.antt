@@ -1,7 +1,6 @@
 use Rattle.pm_state.specs.Values.{value}
 use Rattle.pm_apply.proofs.TakingLemmas.{IsPartly}
 use Rattle.pm_apply.proofs.TurnsLemmas.{lowers}
-use Rattle.pm_record.proofs.Below.{ChipLaws}
 use Rattle.pm_apply.proofs.taking.lower.Given as goal
 
 -- the turns so far were taken

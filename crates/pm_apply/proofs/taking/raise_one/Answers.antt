@@ -1,5 +1,4 @@
-use Rattle.std.proofs.Common.{◌≡◌, ◌+◌, ◌≤◌, ◌<◌, ℕ, length, sym, ap, ◌∙◌, arith}
-use Rattle.pm_base.specs.declared.names.Unit.{Unit}
+use Rattle.std.proofs.Common.{arith}
 use Rattle.pm_state.specs.Values.{value}
 use Rattle.pm_apply.specs.declared.turns.Turn.TheVariants.{PowerOn}
 use Rattle.pm_apply.proofs.CountLemmas.{due_most}

@@ -1,5 +1,4 @@
-use Rattle.std.proofs.Common.{◌≡◌, ◌+◌, ◌≤◌, ◌<◌, ℕ, Option, None, Some, List, [], ◌∷◌, ◌++◌, length, slice_get, sym, ap, subst, ◌∙◌, arith, refl}
-use Rattle.pm_base.specs.declared.names.Unit.{Unit}
+use Rattle.std.proofs.Common.{sym, ◌∙◌, arith}
 use Rattle.pm_state.specs.Values.{value}
 use Rattle.pm_apply.proofs.CountLemmas.{due_most}
 use Rattle.pm_apply.proofs.TakesLemmas.{Takes-none}

@@ -1,17 +1,16 @@
-use Rattle.std.proofs.Common.{◌≡◌, ◌+◌, ◌≤◌, ◌<◌, ℕ, Option, None, Some, List, [], ◌∷◌, ◌++◌, length, slice_get, sym, ap, subst, ◌∙◌, arith, refl}
+use Rattle.std.proofs.Common.{◌≡◌, ℕ, None, Some, [], ◌∷◌, slice_get, sym, ap, subst, ◌∙◌, arith, refl}
 use Rattle.pm_base.specs.declared.names.Unit.{Unit}
 use Rattle.pm_state.specs.Values.{value}
 use Rattle.std.specs.Option.{option_map}
-use Rattle.std.proofs.lemmas.List.Sums.{sum_by-append, sum_by-cons}
+use Rattle.std.proofs.lemmas.List.Sums.{sum_by-append}
 use Rattle.std.proofs.lemmas.Option.{same_Some, slice_get-map}
 use Rattle.pm_topology.specs.UnitMap.{units_in}
 use Rattle.pm_topology.specs.Units.{units_of}
 use Rattle.pm_record.specs.declared.kept.KeptValue.{KeptValue}
-use Rattle.pm_apply.specs.declared.turns.Turn.{Turn}
 use Rattle.pm_apply.specs.declared.turns.Turn.TheVariants.{Apply}
 use Rattle.pm_apply.specs.Carried.{Takes}
 use Rattle.pm_apply.specs.Plan.{pulse_turn, with_pulse}
-use Rattle.pm_apply.specs.Room.{most, most_of}
+use Rattle.pm_apply.specs.Room.{most}
 use Rattle.pm_record.proofs.Below.{ChipLaws}
 use Rattle.pm_apply.proofs.TakesLemmas.{KeepsRest-trans, Takes-length, Takes-trans}
 use Rattle.pm_apply.proofs.TakingLemmas.{KeepsRest-refl, followed_then, most_alone}

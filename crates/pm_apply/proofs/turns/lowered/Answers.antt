@@ -4,7 +4,7 @@ use Rattle.pm_base.specs.declared.names.Unit.{Unit}
 use Rattle.pm_base.specs.declared.names.Unit.TheVariants.{Node}
 use Rattle.pm_topology.specs.declared.topology.Topology.{Topology}
 use Rattle.pm_state.specs.Values.{value}
-use Rattle.pm_apply.specs.Plan.{command, due, power_on, power_off, where_due}
+use Rattle.pm_apply.specs.Plan.{command, power_off, where_due}
 use Rattle.pm_record.proofs.Below.{ChipLaws}
 use Rattle.pm_apply.proofs.TakingLemmas.{lowered_is, not_lowered}
 use Rattle.pm_apply.proofs.turns.lowered.Goals as goal

@@ -3,7 +3,7 @@ use Rattle.pm_base.specs.declared.names.Unit.{Unit}
 use Rattle.pm_base.specs.declared.names.Unit.TheVariants.{Node}
 use Rattle.pm_topology.specs.declared.topology.Topology.{Topology}
 use Rattle.pm_state.specs.Values.{value}
-use Rattle.pm_apply.specs.Plan.{command, due, power_on, power_off, where_due}
+use Rattle.pm_apply.specs.Plan.{command, power_on, where_due}
 use Rattle.pm_record.proofs.Below.{ChipLaws}
 use Rattle.pm_apply.proofs.TakingLemmas.{raised_is, not_raised}
 use Rattle.pm_apply.proofs.turns.raised.Goals as goal
