@@ -34,6 +34,7 @@ use Rattle.pm_drive.specs.Tasks.{task_notes}
 use Rattle.pm_drive.specs.Text.{given_text, later_reply, reply_after}
 use Rattle.pm_engine.specs.Progress.{Progress, stand_in}
 use Rattle.pm_engine.specs.Writes.{WritesOn}
+use Rattle.pm_engine.proofs.WritesLemmas.{on-both, on-none}
 use Rattle.pm_replay.specs.Within.{AreTold, RanCore, RanCores, RanLine, given_from}
 
 -- clocks by their tree and what was told of them

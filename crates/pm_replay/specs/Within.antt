@@ -38,6 +38,7 @@ use Rattle.pm_drive.specs.Heard.{heard, heard_by, heard_cores, last_board}
 use Rattle.pm_drive.specs.Tasks.{task_notes}
 use Rattle.pm_drive.specs.Text.{given_text, reply_after, texts}
 use Rattle.pm_engine.specs.Progress.{AreOf, Progress, stand_in}
+use Rattle.pm_engine.specs.Writes.{WritesOn}
 use Rattle.pm_replay.specs.Replay.{run_report}
 
 -- a line of this event has no core event but it, no note of its own, no act on the device beside its commands, and no answer to
