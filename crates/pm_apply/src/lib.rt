@@ -6,6 +6,7 @@ mod carrying;
 mod commands;
 mod failing;
 mod laws;
+mod powers;
 mod taking;
 mod turns;
 mod wanted;

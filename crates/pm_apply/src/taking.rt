@@ -18,7 +18,8 @@ ghost use Rattle.pm_apply.specs.Room.{most, most_of};
 ghost use Rattle.pm_record.specs.Marks.{NoPowerLags};
 ghost use Rattle.pm_apply.specs.Visits.{IsReady};
 
-use crate::turns::{Turn, apply_at, due, lowered, pulse_turn, raised};
+use crate::powers::{lowered, raised};
+use crate::turns::{Turn, apply_at, due, pulse_turn};
 use pm_base::{Command, Unit};
 use pm_core::{Book, Done, Outbox};
 use pm_device::Device;
@@ -246,6 +247,7 @@ fn issue<D: Device>(dev: &mut D, kept: &mut Kept, out: &mut Outbox, command: Com
 }
 
 /// The same for a command on the unit at a place.
+#[inline(always)]
 fn issue_at<D: Device>(
     dev: &mut D,
     kept: &mut Kept,

@@ -1,6 +1,6 @@
 //! The turns of a step: each may issue one command.
 
-ghost use Rattle.std.specs.Prelude.{◌≡◌, ℕ, ◌<◌, ◌≤◌, ◌==◌, ◌&&◌, ◌||◌, false, not, IfNone, IfSome, None, length, option_to_list, slice_get, unwrap_or, Some};
+ghost use Rattle.std.specs.Prelude.{◌≡◌, ℕ, ◌<◌, ◌≤◌, ◌==◌, ◌&&◌, ◌||◌, false, not, length, option_to_list, slice_get, unwrap_or, Some};
 ghost use Rattle.pm_base.specs.declared.names.Unit.TheVariants.{Node};
 ghost use Rattle.pm_topology.specs.WellFormed.{IsWellFormed};
 ghost use Rattle.pm_topology.specs.UnitMap.{units_in};
@@ -11,7 +11,6 @@ ghost use Rattle.pm_state.specs.Values.{value};
 ghost use Rattle.pm_record.specs.Kinds.{is_power, is_power_kind};
 ghost use Rattle.pm_apply.specs.Plan.{due, is_fed, is_used, power_off, power_value, power_on, apply, pulse, pulse_before, pulse_turn, unit_turns, where_due};
 ghost use Rattle.pm_record.specs.Record.{HasSupplies, kept_value};
-ghost use Rattle.pm_apply.specs.Left.{IsFollowed};
 ghost use Rattle.pm_apply.specs.Visits.{IsIdleAt, power_lags};
 
 use pm_base::{Command, LineId, Unit};
@@ -144,95 +143,6 @@ fn power_lags(place: usize, t: &Topology, kept: &Kept) -> bool
     }
 }
 
-/// The place in the record of the power node at a place that goes up, and its command. Nothing comes out where it has no
-/// command: it isn't marked, or isn't down in the record, or stays so.
-#[inline(always)]
-pub(crate) fn raised(
-    place: usize,
-    pulse: Option<LineId>,
-    book: &Book,
-    kept: &Kept,
-) -> Option<(usize, Command)>
-    requires { IsFollowed book.now.fixed.topology (λ u. value u book.now) pulse kept.now }
-    ensures none { IfNone result (due book.now.fixed.topology (λ u. value u book.now) kept.now (Turn.PowerOn place) ≡ None) }
-    ensures some { IfSome result (λ found. due book.now.fixed.topology (λ u. value u book.now) kept.now (Turn.PowerOn place)
-        ≡ Some found.1) }
-    ensures there { IfSome result (λ found. slice_get (units_in kept.now) found.0 ≡ Some found.1.unit) }
-{
-    units_stand_in_order();
-    kinds_are_exact();
-    unit_maps::<KeptValue>();
-    book.stays_sound();
-    let Some(power) = power_at(book.topology(), place) else {
-        return None;
-    };
-    let unit = Unit::Node(power.node);
-    let Some(at) = kept.lagging(unit, 0) else {
-        return None;
-    };
-    if rises(at, unit, power.parent, book, kept) {
-        Some((at, Command { unit, value: 1 }))
-    } else {
-        None
-    }
-}
-
-/// Whether a unit, which stands at this place of the record and has this parent, is up in the book, and its parent isn't
-/// down in the record.
-#[inline(always)]
-fn rises(at: usize, unit: Unit, parent: Option<usize>, book: &Book, kept: &Kept) -> bool
-    requires { slice_get (units_of book.now.fixed.topology) at ≡ Some unit }
-    ensures { result ≡ ((value unit book.now == 1) && is_fed book.now.fixed.topology kept.now parent) }
-{
-    book.value_at(at) == 1 && is_fed(book.topology(), kept, parent)
-}
-
-/// The place in the record of the power node at a place that goes down, and its command. Nothing comes out where it has
-/// no command: it isn't marked, or isn't up in the record, or stays so.
-#[inline(always)]
-pub(crate) fn lowered(
-    place: usize,
-    pulse: Option<LineId>,
-    book: &Book,
-    kept: &Kept,
-) -> Option<(usize, Command)>
-    requires { IsFollowed book.now.fixed.topology (λ u. value u book.now) pulse kept.now }
-    ensures none { IfNone result (due book.now.fixed.topology (λ u. value u book.now) kept.now (Turn.PowerOff place) ≡ None) }
-    ensures some { IfSome result (λ found. due book.now.fixed.topology (λ u. value u book.now) kept.now (Turn.PowerOff place)
-        ≡ Some found.1) }
-    ensures there { IfSome result (λ found. slice_get (units_in kept.now) found.0 ≡ Some found.1.unit) }
-{
-    units_stand_in_order();
-    kinds_are_exact();
-    unit_maps::<KeptValue>();
-    book.stays_sound();
-    let Some(power) = power_at(book.topology(), place) else {
-        return None;
-    };
-    let unit = Unit::Node(power.node);
-    let Some(at) = kept.lagging(unit, 1) else {
-        return None;
-    };
-    if falls(at, unit, place, book, kept) {
-        Some((at, Command { unit, value: 0 }))
-    } else {
-        None
-    }
-}
-
-/// Whether a unit, which stands at this place of the record, is down in the book, and nothing directly below the power
-/// node at a place needs power by the record.
-#[inline(always)]
-fn falls(at: usize, unit: Unit, place: usize, book: &Book, kept: &Kept) -> bool
-    requires at { slice_get (units_of book.now.fixed.topology) at ≡ Some unit }
-    requires there { place < length book.now.fixed.topology.powers }
-    requires units { units_in kept.now ≡ units_of book.now.fixed.topology }
-    requires supplies { HasSupplies book.now.fixed.topology kept.now }
-    ensures { result ≡ ((value unit book.now == 0) && not (is_used book.now.fixed.topology kept.now place)) }
-{
-    book.value_at(at) == 0 && !is_used(place, book, kept)
-}
-
 /// The pulse that stands before a turn: before that of a reset line that is pulsed.
 pub(crate) fn pulse_before(pulse: Option<LineId>, turn: Turn) -> Option<Turn>
     ensures { option_to_list result ≡ pulse_before pulse turn }
@@ -300,7 +210,7 @@ fn goes_up(power: &PowerDef, book: &Book, kept: &Kept) -> bool
 }
 
 /// Whether the power node above is up by the record, or there is none above.
-fn is_fed(t: &Topology, kept: &Kept, parent: Option<usize>) -> bool
+pub(crate) fn is_fed(t: &Topology, kept: &Kept, parent: Option<usize>) -> bool
     ensures { result ≡ is_fed t.now kept.now parent }
 {
     match parent {
@@ -437,7 +347,7 @@ fn goes_down(power: &PowerDef, place: usize, book: &Book, kept: &Kept) -> bool
 
 /// Whether some unit directly below the power node at a place needs power by the record: whether their number, which is
 /// kept, isn't 0.
-fn is_used(place: usize, book: &Book, kept: &Kept) -> bool
+pub(crate) fn is_used(place: usize, book: &Book, kept: &Kept) -> bool
     requires there { place < length book.now.fixed.topology.powers }
     requires units { units_in kept.now ≡ units_of book.now.fixed.topology }
     requires supplies { HasSupplies book.now.fixed.topology kept.now }
@@ -453,7 +363,7 @@ fn is_used(place: usize, book: &Book, kept: &Kept) -> bool
 // ---- power nodes
 
 /// The power node at a place.
-fn power_at(t: &Topology, place: usize) -> Option<PowerDef>
+pub(crate) fn power_at(t: &Topology, place: usize) -> Option<PowerDef>
     ensures { result ≡ slice_get t.now.powers place }
 {
     t.powers.as_slice().get(place).copied()

@@ -47,6 +47,7 @@ pub(crate) fn keep(values: &mut UnitMap<KeptValue>, uses: &mut UseCounts, comman
 
 /// Keeps the value of a command at the place of its unit, and the counts of uses: the unit is counted out at the value
 /// before, which comes out, and in at the one that the device took.
+#[inline(always)]
 pub(crate) fn keep_at(
     values: &mut UnitMap<KeptValue>,
     uses: &mut UseCounts,

@@ -299,6 +299,7 @@ impl Kept {
     }
 
     /// The same for a command on the unit at a place.
+    #[inline(always)]
     pub fn log_at(&mut self, place: usize, command: Command, ok: bool) -> u32
         requires { slice_get (units_in self.old) place ≡ Some command.unit }
         ensures kept { self.new ≡ after_answer command ok self.old }

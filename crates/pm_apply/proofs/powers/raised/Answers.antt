@@ -6,7 +6,7 @@ use Rattle.pm_state.specs.Values.{value}
 use Rattle.pm_apply.specs.Plan.{command, power_on, where_due}
 use Rattle.pm_record.proofs.Below.{ChipLaws}
 use Rattle.pm_apply.proofs.TakingLemmas.{raised_is, not_raised}
-use Rattle.pm_apply.proofs.turns.raised.Goals as goal
+use Rattle.pm_apply.proofs.powers.raised.Goals as goal
 
 pub returns-in_default-clause-none : goal.returns-in_default-clause-none
 returns-in_default-clause-none c =

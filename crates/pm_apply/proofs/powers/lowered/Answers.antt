@@ -7,7 +7,7 @@ use Rattle.pm_state.specs.Values.{value}
 use Rattle.pm_apply.specs.Plan.{command, power_off, where_due}
 use Rattle.pm_record.proofs.Below.{ChipLaws}
 use Rattle.pm_apply.proofs.TakingLemmas.{lowered_is, not_lowered}
-use Rattle.pm_apply.proofs.turns.lowered.Goals as goal
+use Rattle.pm_apply.proofs.powers.lowered.Goals as goal
 
 pub returns-in_default-clause-none : goal.returns-in_default-clause-none
 returns-in_default-clause-none c =
