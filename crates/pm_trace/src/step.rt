@@ -68,7 +68,8 @@ pub fn answer_entry(n: u32, answer: &Answer, line: &mut TextLine)
 fn put_entry(text: &mut [u8; 128], n: u32, out: &Outbox, answer: &Answer, k: usize) -> usize
     requires place { k < length (output_words out.now.done.items (notices_in out.now) answer.now) }
     ensures within { result ≤ 128 }
-    ensures text { slice_get (core_lines n out.now.done.items (notices_in out.now) answer.now) k ≡ Some (drop result text.new) }
+    ensures text { slice_get (core_lines n out.now.done.items (notices_in out.now) answer.now) k
+        ≡ Some (drop result text.new) }
 {
     let k = match at(out.done.as_slice(), k) {
         Ok(done) => return put_command(text, 128, n, done),
