@@ -1,7 +1,7 @@
 //! The files and the standard output of the host, as inputs and sink of a run. Contracts see nothing
 //! of what they hold.
 
-ghost use Rattle.std.specs.Prelude.{◌≡◌, ◌⊎◌, [], take, length, ◌≤◌, IfSome};
+ghost use Rattle.std.specs.Prelude.{◌≡◌, ◌⊎◌, ◌≤◌, [], take, length, true, IfSome};
 ghost use Rattle.pm_io.specs.Inputs.{unobserved};
 
 use pm_base::{Exit, Failed, NoMemory};
@@ -140,7 +140,8 @@ impl<W: Write + Drop> HostSink<W> {
     /// other exit does where a byte before the last piece was lost: if the last piece alone was, which is the line
     /// of a fault, the exit of that fault stays.
     pub fn finish(&mut self, exit: Exit) -> Exit
-        ensures { (result ≡ exit) ⊎ (result ≡ Exit.WriteFault) }
+        ensures exit { (result ≡ exit) ⊎ (result ≡ Exit.WriteFault) }
+        ensures lost { self.old.lost ≡ true → result ≡ Exit.WriteFault }
     {
         let handed = self.hand_on();
         match (exit, handed) {
@@ -190,8 +191,10 @@ impl<W: Write + Drop> HostSink<W> {
         Some(piece.len())
     }
 
-    /// Hands on what is gathered.
+    /// Hands on what is gathered. Nothing is gathered then, and what was lost stays lost.
     fn hand_on(&mut self) -> Handed
+        ensures gathered { self.new.gathered ≡ 0 }
+        ensures lost { self.old.lost ≡ true → self.new.lost ≡ true }
         ensures faults { self.new.faults ≡ self.old.faults }
         ensures stalls { self.new.stalls ≡ self.old.stalls }
     {
