@@ -12,7 +12,7 @@ returns-clause-safe g c = safe_logged _ c.logged_acts_are_safe.ensures.model c.c
 
 pub returns-clause-driven : goal.returns-clause-driven
 returns-clause-driven g c = λ named done is.
-    let ended : c.pm_main-exit.result ≡ exit.Done = elim c.finish.ensures [
+    let ended : c.pm_main-exit.result ≡ exit.Done = elim c.finish.ensures.exit [
       | inl same ↦ sym same ∙ done
       | inr broken ↦ let clash : exit.Done ≡ exit.WriteFault = sym done ∙ broken in cc
     ] in
