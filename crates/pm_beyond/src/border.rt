@@ -7,14 +7,14 @@ ghost use Rattle.pm_topology.specs.declared.topology.Topology.{Topology};
 ghost use Rattle.pm_topology.specs.Places.{line_place};
 ghost use Rattle.pm_perms.specs.Several.{masters_of};
 ghost use Rattle.pm_reach.specs.Brings.{brings};
-ghost use Rattle.pm_laws.specs.Answers.{names_beyond};
+ghost use Rattle.pm_laws.specs.Answers.{named_beyond, names_beyond};
 ghost use Rattle.pm_laws.specs.Border.{line_beyond, none_within, unit_beyond};
 ghost use Rattle.pm_laws.specs.ReachBorder.{brings_in, master_beyond, place_of, reaches, unit_border};
 ghost use Rattle.pm_state.specs.Members.{owner_at};
 ghost use Rattle.pm_beyond.specs.Found.{ArePaths, number_by};
 
 use pm_base::{LineId, List, NoMemory, NodeId, Unit};
-use pm_ipi::Call;
+use pm_ipi::{Call, Named};
 use pm_object::Object;
 use pm_perms::owner_of;
 use pm_reach::brings::brings;
@@ -228,6 +228,24 @@ fn reset_beyond(objects: &[Object], t: &Topology, routes: &[Route], l: usize) ->
     }
 }
 
+/// Whether a node that a call names is beyond, or the reset line whose value it asks for.
+fn named_beyond(
+    loaded: &Object,
+    objects: &[Object],
+    t: &Topology,
+    routes: &[Route],
+    unit: Unit,
+) -> bool
+    ensures { (from : Option ℕ) → ArePaths objects.now t.now from routes.now
+        → result ≡ named_beyond t.now
+        (unit_border objects.now t.now from (number_by loaded.now objects.now t.now from)) unit }
+{
+    match unit {
+        Unit::Node(node) => node_beyond(loaded, objects, t, routes, node),
+        Unit::Line(line) => line_beyond(objects, t, routes, line),
+    }
+}
+
 /// Whether each node that a call names is beyond, and the reset line whose value it asks for.
 pub(crate) fn names_beyond(
     loaded: &Object,
@@ -240,29 +258,12 @@ pub(crate) fn names_beyond(
         → result ≡ names_beyond t.now
         (unit_border objects.now t.now from (number_by loaded.now objects.now t.now from)) call }
 {
-    match call {
-        Call::GetNodeStatus { node }
-        | Call::GetOpCharacteristic { node, .. }
-        | Call::RegisterNotifier { node, .. }
-        | Call::RequestSuspend { node, .. }
-        | Call::SelfSuspend { node, .. }
-        | Call::ForcePowerdown { node, .. }
-        | Call::AbortSuspend { node, .. }
-        | Call::RequestWakeup { node, .. }
-        | Call::RequestNode { node, .. }
-        | Call::ReleaseNode { node }
-        | Call::SetRequirement { node, .. }
-        | Call::SetMaxLatency { node, .. } => node_beyond(loaded, objects, t, routes, node),
-        Call::SetWakeupSource { target, source, .. } => {
-            node_beyond(loaded, objects, t, routes, target)
-                && node_beyond(loaded, objects, t, routes, source)
+    match call.names() {
+        Named::Nothing => true,
+        Named::One(unit) => named_beyond(loaded, objects, t, routes, unit),
+        Named::Two(first, second) => {
+            named_beyond(loaded, objects, t, routes, first)
+                && named_beyond(loaded, objects, t, routes, second)
         }
-        Call::ResetGetStatus { line } => line_beyond(objects, t, routes, line),
-        Call::GetApiVersion
-        | Call::SetConfiguration(_)
-        | Call::SystemShutdown { .. }
-        | Call::ResetAssert { .. }
-        | Call::InitFinalize
-        | Call::Unknown => true,
     }
 }

@@ -8,6 +8,8 @@ use Rattle.pm_base.specs.declared.names.Unit.TheVariants.{Node, Line}
 use Rattle.pm_base.specs.declared.events.Message.{Message}
 use Rattle.pm_ipi.specs.declared.calls.Call.{Call}
 use Rattle.pm_ipi.specs.declared.calls.Call.TheVariants.{GetApiVersion, SetConfiguration, GetNodeStatus, GetOpCharacteristic, RegisterNotifier, RequestSuspend, SelfSuspend, ForcePowerdown, AbortSuspend, RequestWakeup, SetWakeupSource, SystemShutdown, RequestNode, ReleaseNode, SetRequirement, SetMaxLatency, ResetAssert, ResetGetStatus, InitFinalize, Unknown}
+use Rattle.pm_ipi.specs.declared.calls.Named.{Named}
+use Rattle.pm_ipi.specs.declared.calls.Named.TheVariants.{Nothing, One, Two}
 use Rattle.pm_ipi.specs.declared.calls.AckKind.{AckKind}
 use Rattle.pm_ipi.specs.declared.calls.AckKind.TheVariants.{No, Blocking, NonBlocking}
 
@@ -115,6 +117,12 @@ row_of (ResetAssert line action) = row 17 [] None
 row_of (ResetGetStatus line) = row 18 (Line line ∷ []) None
 row_of InitFinalize = row 21 [] None
 row_of Unknown = row 0 [] None
+
+-- the units that a call names, in their order
+abbrev pub listed : Named → List Unit
+listed Nothing = []
+listed (One unit) = unit ∷ []
+listed (Two first second) = first ∷ second ∷ []
 
 -- the call of a message, by its number
 abbrev pub call_of : Message → Call

@@ -1,9 +1,9 @@
 //! The calls by their words (UG1200, API calls).
 
 ghost use Rattle.std.specs.Prelude.{◌≡◌, ◌≤◌, option_map};
-ghost use Rattle.pm_ipi.specs.Calls.{acknowledge_of, call_of, address_of, wake_address, ack_kind, ack_of, node_of};
+ghost use Rattle.pm_ipi.specs.Calls.{acknowledge_of, call_of, address_of, wake_address, ack_kind, ack_of, listed, node_of, row_of};
 
-use pm_base::{Caps, LineId, Message, NodeId};
+use pm_base::{Caps, LineId, Message, NodeId, Unit};
 
 /// How the caller wants a call to be acknowledged (UG1200, acknowledge kinds): not at all, by a
 /// reply, or by the acknowledge callback.
@@ -106,6 +106,14 @@ pub enum Call {
     InitFinalize,
     /// Any other number of a call.
     Unknown,
+}
+
+/// What a call names: at most two units.
+#[derive(Clone, Copy, Debug, PartialEq, Eq)]
+pub enum Named {
+    Nothing,
+    One(Unit),
+    Two(Unit, Unit),
 }
 
 /// The call that a message makes.
@@ -245,6 +253,36 @@ impl Call {
             | Call::RequestNode { node, ack, .. }
             | Call::SetRequirement { node, ack, .. } => Some((*node, *ack)),
             _ => None,
+        }
+    }
+
+    /// The nodes that the call names and the reset line whose value it asks for, that of its acknowledgement first.
+    pub fn names(&self) -> Named
+        ensures { listed result ≡ (row_of self.now).names }
+    {
+        match self {
+            Call::GetNodeStatus { node }
+            | Call::GetOpCharacteristic { node, .. }
+            | Call::RegisterNotifier { node, .. }
+            | Call::RequestSuspend { node, .. }
+            | Call::SelfSuspend { node, .. }
+            | Call::ForcePowerdown { node, .. }
+            | Call::AbortSuspend { node, .. }
+            | Call::RequestWakeup { node, .. }
+            | Call::RequestNode { node, .. }
+            | Call::ReleaseNode { node }
+            | Call::SetRequirement { node, .. }
+            | Call::SetMaxLatency { node, .. } => Named::One(Unit::Node(*node)),
+            Call::SetWakeupSource { target, source, .. } => {
+                Named::Two(Unit::Node(*target), Unit::Node(*source))
+            }
+            Call::ResetGetStatus { line } => Named::One(Unit::Line(*line)),
+            Call::GetApiVersion
+            | Call::SetConfiguration(_)
+            | Call::SystemShutdown { .. }
+            | Call::ResetAssert { .. }
+            | Call::InitFinalize
+            | Call::Unknown => Named::Nothing,
         }
     }
 

@@ -10,6 +10,6 @@ pub mod responses;
 pub mod status;
 
 pub use callbacks::callback_words;
-pub use calls::{AckKind, Call, ack_kind, decode_call};
+pub use calls::{AckKind, Call, Named, ack_kind, decode_call};
 pub use mail::Mail;
 pub use responses::{Response, respond};
