@@ -2,6 +2,7 @@ pub mod ArmingLaw
 pub mod CallsOnce
 pub mod CallsSound
 pub mod ResetSound
+pub mod ShapeLaw
 pub mod ShutdownCases
 pub mod ShutdownSound
 pub mod Verdicts

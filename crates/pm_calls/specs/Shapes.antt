@@ -1,5 +1,5 @@
 -- The shape of a call: what it reads of the book and what it changes. Calls of one shape differ in what they check and tell.
-use Rattle.std.specs.Prelude.{ℕ, Option}
+use Rattle.std.specs.Prelude.{ℕ, Bool, true, false, Option, Some, None}
 use Rattle.pm_base.specs.declared.names.LineId.{LineId}
 use Rattle.pm_base.specs.declared.names.Mode.{Mode}
 use Rattle.pm_base.specs.declared.names.NodeId.{NodeId}
@@ -81,3 +81,18 @@ shaped m (All_forced node ack) book = force_powerdown (grants_in book) book.fixe
 shaped m (All_shut shutdown_type subtype) book = system_shutdown (grants_in book) book.fixed m shutdown_type subtype
 shaped m (All_reset line action) book = reset_assert line action (line_view m line book)
 shaped m (All_configured address) book = set_configuration (found_at address book.fixed) (permits_configure (grants_in book) m)
+
+-- a call of this shape changes no value: the caller is told of a node, another master is asked to suspend, or a
+-- processor of the caller that is active starts to suspend, or goes on in place of suspending
+abbrev pub keeps_values : Shape → Bool
+keeps_values (Own_notifier node event enable) = true
+keeps_values (Other_suspend node ack latency state) = true
+keeps_values (Own_suspend node address) = true
+keeps_values (Own_abort node reason) = true
+keeps_values _ = false
+
+-- the node of the slave on which a call of this shape changes the caller's row; then it changes nothing else of the book
+abbrev pub row_node : Shape → Option NodeId
+row_node (Own_row node by call) = Some node
+row_node (Own_arming target source enable) = Some source
+row_node _ = None

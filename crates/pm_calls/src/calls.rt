@@ -2,7 +2,8 @@
 
 ghost use Rattle.std.specs.Prelude.{◌≡◌, true, false};
 ghost use Rattle.pm_calls.specs.Verdict.{stages_of, verdict_of};
-ghost use Rattle.pm_calls.specs.calls.{called, is_once, is_suspending, only_reads};
+ghost use Rattle.pm_calls.specs.Shapes.{keeps_values, row_node};
+ghost use Rattle.pm_calls.specs.calls.{called, is_once, is_suspending, only_reads, shape_of};
 ghost use Rattle.pm_state.specs.Stages.{after_stages, path_from};
 ghost use Rattle.pm_values.specs.Along.{Completes, trail_from};
 ghost use Rattle.pm_values.specs.Caches.{AreKept};
@@ -28,6 +29,7 @@ mod set_wakeup_source;
 mod system_shutdown;
 
 use crate::verdict::Verdict;
+use pm_base::NodeId;
 use pm_ipi::Call;
 use pm_ipi::status::NO_FEATURE;
 use pm_state::Tables;
@@ -180,5 +182,61 @@ fn serve_changing(tables: &mut Tables, master: usize, call: &Call, verdict: &mut
         }
         Call::InitFinalize => init_finalize::serve(tables, master, verdict),
         _ => verdict.refuse(NO_FEATURE),
+    }
+}
+
+/// Whether a call only reads the book.
+#[inline]
+pub fn only_reads(call: &Call) -> bool
+    ensures { result ≡ only_reads call.now }
+{
+    matches!(
+        call,
+        Call::GetApiVersion
+            | Call::GetNodeStatus { .. }
+            | Call::GetOpCharacteristic { .. }
+            | Call::ResetGetStatus { .. }
+    )
+}
+
+/// Whether a call has one stage at most: it is none that takes processors down.
+#[inline]
+pub fn is_once(call: &Call) -> bool
+    ensures { result ≡ is_once call.now }
+{
+    !matches!(
+        call,
+        Call::ForcePowerdown { .. } | Call::SystemShutdown { .. }
+    )
+}
+
+/// Whether a call changes no value: the caller is told of a node, another master is asked to suspend, or a processor
+/// of the caller that is active starts to suspend, or goes on in place of suspending.
+#[inline]
+pub fn keeps_values(call: &Call) -> bool
+    ensures { result ≡ keeps_values (shape_of call.now) }
+{
+    matches!(
+        call,
+        Call::RegisterNotifier { .. }
+            | Call::RequestSuspend { .. }
+            | Call::SelfSuspend { .. }
+            | Call::AbortSuspend { .. }
+    )
+}
+
+/// The node of the slave on which a call changes the caller's row, if it does. Such a call changes nothing else of
+/// the book.
+#[inline]
+pub fn row_node(call: &Call) -> Option<NodeId>
+    ensures { result ≡ row_node (shape_of call.now) }
+{
+    match call {
+        Call::RequestNode { node, .. }
+        | Call::ReleaseNode { node }
+        | Call::SetRequirement { node, .. }
+        | Call::SetMaxLatency { node, .. } => Some(*node),
+        Call::SetWakeupSource { source, .. } => Some(*source),
+        _ => None,
     }
 }

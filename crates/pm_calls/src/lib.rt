@@ -8,6 +8,6 @@ mod reset_lines;
 mod verdict;
 mod views;
 
-pub use calls::serve;
+pub use calls::{is_once, keeps_values, only_reads, row_node, serve};
 pub use events::{boot, interrupt, raise, wait};
 pub use verdict::{Asked, Say, Verdict, aborted_by, asked_by};

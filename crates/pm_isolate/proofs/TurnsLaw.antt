@@ -5,7 +5,6 @@ use Rattle.pm_base.specs.declared.events.Event.{Event}
 use Rattle.pm_base.specs.declared.events.Event.TheVariants.{Ipi}
 use Rattle.pm_base.specs.declared.events.Message.{Message}
 use Rattle.pm_ipi.specs.declared.calls.Call.{Call}
-use Rattle.pm_ipi.specs.declared.calls.Call.TheVariants.{GetApiVersion}
 use Rattle.pm_ipi.specs.Calls.{call_of}
 use Rattle.pm_rows.specs.declared.row.Change.{Change}
 use Rattle.pm_rows.specs.declared.row.Entry.{Entry}
@@ -14,14 +13,15 @@ use Rattle.pm_state.specs.Prims.{Prim, At_row, changed}
 use Rattle.pm_state.specs.Stages.{after_stages}
 use Rattle.pm_state.specs.State.{State}
 use Rattle.pm_state.specs.Values.{master_place}
-use Rattle.pm_calls.specs.Checks.{Cause, Fits, Stands, first_failing}
 use Rattle.pm_calls.specs.RowCalls.{changes_of}
-use Rattle.pm_calls.specs.Shapes.{Shape, Own_arming, Own_row, shaped}
-use Rattle.pm_calls.specs.Verdict.{Called, stages_by}
+use Rattle.pm_calls.specs.Shapes.{Shape, Own_arming, Own_row, row_node, shaped}
+use Rattle.pm_calls.specs.Verdict.{Called}
 use Rattle.pm_calls.specs.Views.{row_view}
 use Rattle.pm_calls.specs.calls.{called, only_reads, shape_of}
 use Rattle.pm_calls.specs.calls.SetWakeupSource.{arming}
-use Rattle.pm_step.specs.Step.{call_at, keeps_procs, may_call, message_stages, row_node}
+use Rattle.pm_calls.proofs.ShapeLaw.{called_shaped}
+use Rattle.pm_step.specs.Step.{call_at, keeps_procs, message_stages}
+use Rattle.pm_step.proofs.MessageLaw.{of_message}
 use Rattle.pm_step.proofs.ModesLaw.{follow_keeps}
 use Rattle.pm_step.proofs.Refused.{none_staged, read_at}
 use Rattle.pm_core.specs.Step.{effect}
@@ -48,22 +48,6 @@ row_leaves by book (Some entry) = stage_leaves (At_row entry.seed.master entry.s
 
 -- ---- a message
 
-by_cause : (book : State) (cause : Cause) (stages : List (List Prim)) → LeavesProcs book stages → LeavesProcs book (stages_by cause stages)
-by_cause book (Stands Fits) stages leaves = leaves
-by_cause book _ stages leaves = refl
-
-call_leaves : (call : Call) (book : State) (m : ℕ) (heard : Bool) → LeavesProcs book (called m call book).stages → LeavesProcs book (message_stages (if heard then Some (called m call book) else None))
-call_leaves call book m true leaves = by_cause book (first_failing (called m call book).checks) (called m call book).stages leaves
-call_leaves call book m false leaves = refl
-
-message_leaves : (call : Call) (book : State) (place : Option ℕ) → ((m : ℕ) → LeavesProcs book (called m call book).stages) → LeavesProcs book (message_stages (option_and_then (call_at call book) place))
-message_leaves call book None leaves = refl
-message_leaves call book (Some m) leaves = call_leaves call book m (may_call m book) (leaves m)
-
-called_shaped : (m : ℕ) (call : Call) (book : State) → called m call book ≡ shaped m (shape_of call) book
-called_shaped m GetApiVersion book = refl
-called_shaped m _ book = refl
-
 shape_leaves : (m : ℕ) (shape : Shape) (book : State) → is_some (row_node shape) ≡ true → LeavesProcs book (shaped m shape book).stages
 shape_leaves m (Own_row node by call) book is =
     row_leaves (by (mode_of_master book.fixed book.now.core m)) book (row_view m node book).entry
@@ -78,7 +62,7 @@ either_of false row is = inr is
 call_keeps : (call : Call) (book : State) (place : Option ℕ) → keeps_procs call ≡ true → LeavesProcs book (message_stages (option_and_then (call_at call book) place))
 call_keeps call book place keeps = elim (either_of (only_reads call) (is_some (row_node (shape_of call))) keeps) [
   | inl reads ↦ ap (λ (stages : List (List Prim)). (after_stages stages book).now.core.procs) (read_at call book place reads)
-  | inr row ↦ message_leaves call book place (λ m.
+  | inr row ↦ of_message (LeavesProcs book) refl call book place (λ m.
       let Q : Called → Type 0 = λ c. LeavesProcs book c.stages in
       subst Q (sym (called_shaped m call book)) (shape_leaves m (shape_of call) book row))
 ]

@@ -35,7 +35,8 @@ use Rattle.pm_laws.proofs.FollowLaw.{mode_alike, proc_alike}
 use Rattle.pm_laws.proofs.Places.{Both-any}
 use Rattle.pm_calls.specs.calls.{shape_of}
 use Rattle.pm_calls.specs.Shapes.{Shape, Node_status, Node_figures, Line_value, Own_row, Own_arming, Own_suspend, Own_abort, Own_notifier, Other_wakeup, Other_suspend, All_forced, All_shut, All_reset, All_configured, shaped, telling}
-use Rattle.pm_laws.proofs.ShapesLaw.{called_shaped, named_shaped, names_of}
+use Rattle.pm_calls.proofs.ShapeLaw.{called_shaped}
+use Rattle.pm_laws.proofs.ShapesLaw.{named_shaped, names_of}
 use Rattle.pm_laws.proofs.ValuesLaw.{kind_alike, line_alike, mode_same}
 
 -- ---- a test of the rows on a slave beyond

@@ -37,7 +37,8 @@ use Rattle.pm_calls.specs.calls.SetWakeupSource.{set_wakeup_source}
 use Rattle.pm_calls.proofs.Verdicts.{nothing_done}
 use Rattle.pm_calls.specs.calls.{shape_of}
 use Rattle.pm_calls.specs.Shapes.{Shape, Node_status, Node_figures, Line_value, Own_row, Own_arming, Own_suspend, Own_abort, Own_notifier, Other_wakeup, Other_suspend, All_forced, All_shut, All_reset, All_configured, shaped}
-use Rattle.pm_laws.proofs.ShapesLaw.{called_shaped, reads_within}
+use Rattle.pm_calls.proofs.ShapeLaw.{called_shaped}
+use Rattle.pm_laws.proofs.ShapesLaw.{reads_within}
 use Rattle.pm_laws.proofs.AgreeLaw.{clash}
 use Rattle.pm_laws.proofs.FollowLaw.{mode_alike, proc_alike}
 use Rattle.pm_laws.proofs.Places.{Both-find, Both-refl, BothFrom-get}

@@ -35,7 +35,8 @@ use Rattle.pm_laws.proofs.DownHidden.{call_hides, force_hidden, shutdown_hidden}
 use Rattle.pm_laws.proofs.HiddenLemmas.{HasClosed, by_one, one_hidden, within_by}
 use Rattle.pm_calls.specs.calls.{shape_of}
 use Rattle.pm_calls.specs.Shapes.{Shape, Own_row, Own_arming, Own_holds, Own_suspend, Own_abort, Other_wakeup, Other_suspend, All_forced, All_shut, All_reset, All_configured, shaped}
-use Rattle.pm_laws.proofs.ShapesLaw.{IsUnarmed, called_shaped, shape_unarmed}
+use Rattle.pm_calls.proofs.ShapeLaw.{called_shaped}
+use Rattle.pm_laws.proofs.ShapesLaw.{IsUnarmed, shape_unarmed}
 
 -- a call hides if its changes do
 hidden_by : (border : Border) (cause : Cause) (stages : List (List Prim)) → AreHidden border stages → AreHidden border (stages_by cause stages)

@@ -1,13 +1,13 @@
--- A call is that of its shape, and names what its shape names.
-use Rattle.std.proofs.Common.{◌≡◌, ℕ, Bool, true, false, List, [], ◌∷◌, refl}
-use Rattle.pm_laws.proofs.Common.{Mode, Node, State, Unit, called, is_arming}
+-- A call names what its shape names.
+use Rattle.std.proofs.Common.{◌≡◌, Bool, true, false, List, [], ◌∷◌, refl}
+use Rattle.pm_laws.proofs.Common.{Mode, Node, Unit, is_arming}
 use Rattle.pm_base.specs.declared.names.Unit.TheVariants.{Line}
 use Rattle.pm_ipi.specs.declared.calls.AckKind.TheVariants.{Blocking}
 use Rattle.pm_ipi.specs.declared.calls.Call.{Call}
 use Rattle.pm_ipi.specs.declared.calls.Call.TheVariants.{GetApiVersion}
 use Rattle.pm_ipi.specs.Calls.{ack_of, row_of}
 use Rattle.pm_calls.specs.calls.{shape_of}
-use Rattle.pm_calls.specs.Shapes.{Shape, Constant, Node_status, Node_figures, Line_value, Own_row, Own_arming, Own_holds, Own_suspend, Own_abort, Own_notifier, Other_wakeup, Other_suspend, All_forced, shaped}
+use Rattle.pm_calls.specs.Shapes.{Shape, Constant, Node_status, Node_figures, Line_value, Own_row, Own_arming, Own_holds, Own_suspend, Own_abort, Own_notifier, Other_wakeup, Other_suspend, All_forced}
 
 -- the nodes that a call of a shape names, and the reset line whose value it tells
 abbrev pub names_of : Shape → List Unit
@@ -25,10 +25,6 @@ names_of (Other_wakeup node address ack) = Node node ∷ []
 names_of (Other_suspend node ack latency state) = Node node ∷ []
 names_of (All_forced node ack) = Node node ∷ []
 names_of _ = []
-
-pub called_shaped : (m : ℕ) (call : Call) (book : State) → called m call book ≡ shaped m (shape_of call) book
-called_shaped m GetApiVersion book = refl
-called_shaped m _ book = refl
 
 pub named_shaped : (call : Call) → (row_of call).names ≡ names_of (shape_of call)
 named_shaped GetApiVersion = refl

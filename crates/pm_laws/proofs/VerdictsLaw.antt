@@ -28,7 +28,8 @@ use Rattle.pm_calls.proofs.Verdicts.{all_hold, mapped}
 use Rattle.pm_laws.specs.Pulse.{pulse_beyond}
 use Rattle.pm_calls.specs.calls.{shape_of}
 use Rattle.pm_calls.specs.Shapes.{Shape, Node_status, Node_figures, Line_value, Own_row, Own_arming, Own_abort, Own_notifier, Other_wakeup, Other_suspend, All_shut, All_reset, All_configured, shaped}
-use Rattle.pm_laws.proofs.ShapesLaw.{called_shaped, reads_within}
+use Rattle.pm_calls.proofs.ShapeLaw.{called_shaped}
+use Rattle.pm_laws.proofs.ShapesLaw.{reads_within}
 use Rattle.pm_laws.proofs.CallsAlike.{book_of, called_same, kept}
 use Rattle.pm_laws.proofs.CallsHidden.{turned}
 use Rattle.pm_laws.proofs.DownHidden.{may_shut_down, none_beyond}

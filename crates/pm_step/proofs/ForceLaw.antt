@@ -1,5 +1,5 @@
 -- The object in force stays, but for the call that configures.
-use Rattle.std.proofs.Common.{◌≡◌, ℕ, ◌==◌, Bool, true, false, cond, if◌then◌else◌, List, [], ◌∷◌, ◌+◌, Option, Some, None, refl, ap, sym, ◌∙◌}
+use Rattle.std.proofs.Common.{◌≡◌, ℕ, ◌==◌, Bool, true, false, cond, if◌then◌else◌, List, [], ◌∷◌, ◌+◌, Option, Some, None, refl, ap, sym, ◌∙◌, subst}
 use Rattle.std.specs.Prelude.{find, flat_map, option_and_then, unwrap_or}
 use Rattle.std.specs.List.{AllByRecursion as Each}
 use Rattle.std.proofs.lemmas.Bool.{eqb-true}
@@ -14,7 +14,6 @@ use Rattle.pm_ipi.specs.Calls.{call_of, calls_by, row_of}
 use Rattle.pm_procs.specs.declared.procs.Proc.{Proc as Processor}
 use Rattle.pm_procs.specs.Procs.{proc_at}
 use Rattle.pm_rows.specs.declared.row.Change.{Change}
-use Rattle.pm_rows.specs.declared.row.Change.TheVariants.{Request, Release, Set, Limit}
 use Rattle.pm_rows.specs.declared.row.Entry.{Entry}
 use Rattle.pm_topology.specs.declared.places.Kind.{Kind}
 use Rattle.pm_topology.specs.declared.places.Kind.TheVariants.{Proc, Slave}
@@ -34,20 +33,22 @@ use Rattle.pm_calls.specs.declared.reset_lines.OwnedProc.{OwnedProc}
 use Rattle.pm_calls.specs.declared.views.ProcView.{ProcView}
 use Rattle.pm_calls.specs.declared.views.WakeView.{WakeView}
 use Rattle.pm_calls.specs.declared.views.Wakeable.{Wakeable}
-use Rattle.pm_calls.specs.Checks.{Cause, Fits, Stands, first_failing}
 use Rattle.pm_calls.specs.Events.{boot_at, boot_by, booted, interrupt_at, interrupt_by, raised_at, wait_at, wait_by, waits, woken_at, woken_by, woken_from, woken_in}
 use Rattle.pm_calls.specs.ProcCalls.{address_in, is_in, proc_changes, put_at}
 use Rattle.pm_calls.specs.ResetLines.{line_view}
 use Rattle.pm_calls.specs.RowCalls.{changes_of}
-use Rattle.pm_calls.specs.Verdict.{stages_by}
+use Rattle.pm_calls.specs.Shapes.{Shape, All_configured, All_forced, All_reset, All_shut, Other_wakeup, Own_abort, Own_arming, Own_holds, Own_row, Own_suspend, shaped}
+use Rattle.pm_calls.specs.Verdict.{Called}
 use Rattle.pm_calls.specs.Views.{proc_view, row_view, wake_view}
-use Rattle.pm_calls.specs.calls.{called}
+use Rattle.pm_calls.specs.calls.{shape_of}
 use Rattle.pm_calls.specs.calls.RequestWakeup.{woken_to}
 use Rattle.pm_calls.specs.calls.ResetAssert.{line_put, reset_changes, stopped, stopped_by}
 use Rattle.pm_calls.specs.calls.SetWakeupSource.{arming}
 use Rattle.pm_calls.specs.calls.SystemShutdown.{all_stages, own_stages, starting}
+use Rattle.pm_calls.proofs.ShapeLaw.{called_shaped}
 use Rattle.pm_calls.proofs.ShutdownCases.{each_shutdown}
-use Rattle.pm_step.specs.Step.{call_at, configures, effect, may_call, message_stages, stages}
+use Rattle.pm_step.specs.Step.{call_at, configures, effect, message_stages, stages}
+use Rattle.pm_step.proofs.MessageLaw.{of_message}
 
 -- stages that put no other object in force
 abbrev AllStay : List (List Prim) → Type 0
@@ -120,40 +121,40 @@ abbrev is_configuration : Call → Bool
 is_configuration (calls.SetConfiguration address) = true
 is_configuration _ = false
 
-call_stays : (m : ℕ) (call : Call) (book : State) → is_configuration call ≡ false → AllStay (called m call book).stages
-call_stays m (calls.SetConfiguration address) book isnt = cc
-call_stays m (calls.SelfSuspend node address) book isnt = (put_stays m (proc_view m node book).place Suspending address, tt)
-call_stays m (calls.ForcePowerdown node ack) book isnt =
-    (offs_stay book.fixed (Under node), (clears_stay book.fixed node 0 book.fixed.topology.slaves, tt))
-call_stays m (calls.AbortSuspend node reason) book isnt =
+-- and its shape
+abbrev configures_as : Shape → Bool
+configures_as (All_configured address) = true
+configures_as _ = false
+
+shaped_isnt : (call : Call) → is_configuration call ≡ false → configures_as (shape_of call) ≡ false
+shaped_isnt (calls.SetConfiguration address) isnt = cc
+shaped_isnt _ isnt = refl
+
+shape_stays : (m : ℕ) (shape : Shape) (book : State) → configures_as shape ≡ false → AllStay (shaped m shape book).stages
+shape_stays m (All_configured address) book isnt = cc
+shape_stays m (Own_row node by call) book isnt =
+    (row_stays (by (mode_of_master book.fixed book.now.core m)) (row_view m node book).entry, tt)
+shape_stays m (Own_arming target source enable) book isnt = (row_stays (arming target enable) (row_view m source book).entry, tt)
+shape_stays m Own_holds book isnt = ((tt, tt), tt)
+shape_stays m (Own_suspend node address) book isnt = (put_stays m (proc_view m node book).place Suspending address, tt)
+shape_stays m (Own_abort node reason) book isnt =
     let view : ProcView = proc_view m node book in
     (made_stay (is_in Suspending view) (proc_changes m Active (address_in view) view) (put_stays m view.place Active (address_in view)), tt)
-call_stays m (calls.RequestWakeup node address ack) book isnt =
+shape_stays m (Other_wakeup node address ack) book isnt =
     let view : WakeView = wake_view m node book in
     (wakeup_stays address view.place view.target, tt)
-call_stays m (calls.SetWakeupSource target source enable) book isnt = (row_stays (arming target enable) (row_view m source book).entry, tt)
-call_stays m (calls.SystemShutdown shutdown_type subtype) book isnt =
+shape_stays m (All_forced node ack) book isnt =
+    (offs_stay book.fixed (Under node), (clears_stay book.fixed node 0 book.fixed.topology.slaves, tt))
+shape_stays m (All_shut shutdown_type subtype) book isnt =
     each_shutdown AllStay book.fixed m tt (own_stay book.fixed m) (all_stay book.fixed) shutdown_type subtype
-call_stays m (calls.RequestNode node caps ack) book isnt = (row_stays (Request caps) (row_view m node book).entry, tt)
-call_stays m (calls.ReleaseNode node) book isnt = (row_stays Release (row_view m node book).entry, tt)
-call_stays m (calls.SetRequirement node caps ack) book isnt =
-    (row_stays (Set (mode_of_master book.fixed book.now.core m) caps) (row_view m node book).entry, tt)
-call_stays m (calls.SetMaxLatency node latency) book isnt = (row_stays (Limit latency) (row_view m node book).entry, tt)
-call_stays m (calls.ResetAssert line action) book isnt = (reset_stays action (line_view m line book), tt)
-call_stays m calls.InitFinalize book isnt = ((tt, tt), tt)
-call_stays m _ book isnt = tt
-
-by_stay : (cause : Cause) (stages : List (List Prim)) → AllStay stages → AllStay (stages_by cause stages)
-by_stay (Stands Fits) stages stay = stay
-by_stay _ stages stay = tt
-
-heard_stays : (call : Call) (book : State) (m : ℕ) (heard : Bool) → is_configuration call ≡ false → AllStay (message_stages (if heard then Some (called m call book) else None))
-heard_stays call book m true isnt = by_stay (first_failing (called m call book).checks) (called m call book).stages (call_stays m call book isnt)
-heard_stays call book m false isnt = tt
+shape_stays m (All_reset line action) book isnt = (reset_stays action (line_view m line book), tt)
+shape_stays m _ book isnt = tt
 
 message_stays : (call : Call) (book : State) (place : Option ℕ) → is_configuration call ≡ false → AllStay (message_stages (option_and_then (call_at call book) place))
-message_stays call book None isnt = tt
-message_stays call book (Some m) isnt = heard_stays call book m (may_call m book) isnt
+message_stays call book place isnt =
+    of_message AllStay tt call book place (λ m.
+    let Q : Called → Type 0 = λ c. AllStay c.stages in
+    subst Q (sym (called_shaped m call book)) (shape_stays m (shape_of call) book (shaped_isnt call isnt)))
 
 -- a call of another number doesn't configure
 number_isnt : (api : ℕ) (call : Call) → (api == 2) ≡ false → ((row_of call).number == api) ≡ true → is_configuration call ≡ false

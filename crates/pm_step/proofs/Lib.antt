@@ -2,6 +2,7 @@ pub mod AskedLaw
 pub mod AwakeLaw
 pub mod EndedLaw
 pub mod ForceLaw
+pub mod MessageLaw
 pub mod QuietLaw
 pub mod Refused
 pub mod RestsLaw

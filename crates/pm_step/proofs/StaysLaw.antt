@@ -10,7 +10,7 @@ use Rattle.pm_base.specs.declared.events.Event.TheVariants.{Ipi, Boot, Wfi, Irq,
 use Rattle.pm_base.specs.declared.names.Mode.{Mode}
 use Rattle.pm_base.specs.declared.names.Mode.TheVariants.{Off, Active, Asleep, Suspending}
 use Rattle.pm_ipi.specs.declared.calls.Call.{Call}
-use Rattle.pm_ipi.specs.declared.calls.Call.TheVariants.{ForcePowerdown, GetApiVersion, SystemShutdown}
+use Rattle.pm_ipi.specs.declared.calls.Call.TheVariants.{ForcePowerdown, SystemShutdown}
 use Rattle.pm_ipi.specs.Calls.{call_of}
 use Rattle.pm_object.specs.declared.object.MasterRec.{MasterRec}
 use Rattle.pm_procs.specs.declared.procs.Proc.{Proc}
@@ -27,19 +27,21 @@ use Rattle.pm_state.specs.Values.{master_place, placed}
 use Rattle.pm_state.proofs.PlacedLemmas.{slice_get-placed}
 use Rattle.pm_calls.specs.Checks.{Cause, Fits, Stands, first_failing}
 use Rattle.pm_calls.specs.RowCalls.{changes_of}
-use Rattle.pm_calls.specs.Shapes.{Shape, Own_arming, Own_row, shaped}
+use Rattle.pm_calls.specs.Shapes.{Shape, Own_arming, Own_row, row_node, shaped}
 use Rattle.pm_calls.specs.declared.verdict.Effects.{Effects}
-use Rattle.pm_calls.specs.Verdict.{Called, says_of, stages_by, verdict_by}
+use Rattle.pm_calls.specs.Verdict.{Called, says_of, verdict_by}
 use Rattle.pm_calls.specs.Views.{row_view}
 use Rattle.pm_calls.specs.calls.{called, is_once, only_reads, shape_of}
 use Rattle.pm_calls.specs.calls.SetWakeupSource.{arming}
+use Rattle.pm_calls.proofs.ShapeLaw.{called_shaped}
 use Rattle.pm_tell.specs.declared.served.Served.{Served}
 use Rattle.pm_tell.specs.declared.telling.Telling.{Telling}
 use Rattle.pm_tell.specs.Served.{kept_of, says_in}
 use Rattle.pm_values.specs.Along.{IsTrail, Trail, down_in, is_down, modes_of, no_turns, trail_from}
 use Rattle.pm_values.specs.Starts.{was_down}
 use Rattle.pm_values.specs.Turns.{turns_along, turns_of}
-use Rattle.pm_step.specs.Step.{call_at, call_in, is_once_in, is_quiet, keeps_procs, may_call, may_change, may_move, message_stages, path, rests, row_node, served, stages, time_of, verdict}
+use Rattle.pm_step.specs.Step.{call_at, call_in, is_once_in, is_quiet, keeps_procs, may_call, may_change, may_move, message_stages, path, rests, served, stages, time_of, verdict}
+use Rattle.pm_step.proofs.MessageLaw.{of_message}
 use Rattle.pm_step.proofs.ModesLaw.{follow_keeps}
 use Rattle.pm_step.proofs.Refused.{none_kept, none_staged, read_at, reads_tell, unchanged_rests}
 use Rattle.pm_step.proofs.RestsLaw.{Rests}
@@ -102,22 +104,6 @@ row_leaves by book (Some entry) = stage_leaves (At_row entry.seed.master entry.s
 
 -- ---- a message
 
-by_cause : (book : State) (cause : Cause) (stages : List (List Prim)) → LeavesProcs book stages → LeavesProcs book (stages_by cause stages)
-by_cause book (Stands Fits) stages leaves = leaves
-by_cause book _ stages leaves = none_leave book
-
-call_leaves : (call : Call) (book : State) (m : ℕ) (heard : Bool) → LeavesProcs book (called m call book).stages → LeavesProcs book (message_stages (if heard then Some (called m call book) else None))
-call_leaves call book m true leaves = by_cause book (first_failing (called m call book).checks) (called m call book).stages leaves
-call_leaves call book m false leaves = none_leave book
-
-message_leaves : (call : Call) (book : State) (place : Option ℕ) → ((m : ℕ) → LeavesProcs book (called m call book).stages) → LeavesProcs book (message_stages (option_and_then (call_at call book) place))
-message_leaves call book None leaves = none_leave book
-message_leaves call book (Some m) leaves = call_leaves call book m (may_call m book) (leaves m)
-
-called_shaped : (m : ℕ) (call : Call) (book : State) → called m call book ≡ shaped m (shape_of call) book
-called_shaped m GetApiVersion book = refl
-called_shaped m _ book = refl
-
 shape_leaves : (m : ℕ) (shape : Shape) (book : State) → is_some (row_node shape) ≡ true → LeavesProcs book (shaped m shape book).stages
 shape_leaves m (Own_row node by call) book is =
     row_leaves (by (mode_of_master book.fixed book.now.core m)) book (row_view m node book).entry
@@ -132,7 +118,7 @@ either_of false row is = inr is
 kept_by : (call : Call) (book : State) (place : Option ℕ) → keeps_procs call ≡ true → LeavesProcs book (message_stages (option_and_then (call_at call book) place))
 kept_by call book place keeps = elim (either_of (only_reads call) (is_some (row_node (shape_of call))) keeps) [
   | inl reads ↦ subst (LeavesProcs book) (sym (read_at call book place reads)) (none_leave book)
-  | inr row ↦ message_leaves call book place (λ m.
+  | inr row ↦ of_message (LeavesProcs book) (none_leave book) call book place (λ m.
       let Q : Called → Type 0 = λ c. LeavesProcs book c.stages in
       subst Q (sym (called_shaped m call book)) (shape_leaves m (shape_of call) book row))
 ]

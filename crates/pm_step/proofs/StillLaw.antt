@@ -17,13 +17,13 @@ use Rattle.pm_topology.specs.Places.{kind_of}
 use Rattle.pm_calls.specs.declared.views.ProcView.{ProcView}
 use Rattle.pm_calls.specs.Checks.{Cause, Fits, Stands, first_failing}
 use Rattle.pm_calls.specs.ProcCalls.{on_own}
-use Rattle.pm_calls.specs.Shapes.{Shape, Other_suspend, Own_abort, Own_notifier, Own_suspend, shaped}
+use Rattle.pm_calls.specs.Shapes.{Shape, Other_suspend, Own_abort, Own_notifier, Own_suspend, keeps_values, shaped}
 use Rattle.pm_calls.specs.Verdict.{stages_by, stages_of}
 use Rattle.pm_calls.specs.Views.{is_asked, proc_view_at}
 use Rattle.pm_calls.specs.calls.{called}
 use Rattle.pm_calls.specs.calls.AbortSuspend.{abort_checks, abort_suspend, goes_on}
 use Rattle.pm_calls.specs.calls.SelfSuspend.{self_suspend, self_suspend_checks, to_suspend}
-use Rattle.pm_step.specs.Step.{call_at, keeps_values, may_call, message_stages}
+use Rattle.pm_step.specs.Step.{call_at, may_call, message_stages}
 use Rattle.pm_step.proofs.AwakeLaw.{LeavesValues, flat, foreign_leaves, idle_leaves, none_leaves, put_leaves}
 
 by_cause : (book : State) (cause : Cause) (stages : List (List Prim)) → LeavesValues book stages → LeavesValues book (stages_by cause stages)

@@ -9,7 +9,6 @@ use Rattle.pm_base.specs.declared.events.Event.TheVariants.{Ipi}
 use Rattle.pm_base.specs.declared.names.Mode.{Mode}
 use Rattle.pm_base.specs.declared.names.Mode.TheVariants.{Off, Active, Asleep, Suspending}
 use Rattle.pm_ipi.specs.declared.calls.Call.{Call}
-use Rattle.pm_ipi.specs.declared.calls.Call.TheVariants.{GetApiVersion}
 use Rattle.pm_ipi.specs.Calls.{call_of}
 use Rattle.pm_object.specs.declared.object.MasterRec.{MasterRec}
 use Rattle.pm_procs.specs.Modes.{is_awake, same_mode}
@@ -25,13 +24,13 @@ use Rattle.pm_state.specs.Sound.{IsSound}
 use Rattle.pm_state.specs.Stages.{after_stage, after_stages, follow, follow_from, follow_to, path_from}
 use Rattle.pm_state.specs.State.{CoreHalf, Fixed, State}
 use Rattle.pm_state.specs.Values.{master_place, slave_place}
-use Rattle.pm_calls.specs.Checks.{Cause, Fits, Stands, first_failing}
 use Rattle.pm_calls.specs.RowCalls.{changes_of, row_changes}
-use Rattle.pm_calls.specs.Shapes.{Shape, Other_suspend, Own_abort, Own_arming, Own_notifier, Own_row, Own_suspend, shaped}
-use Rattle.pm_calls.specs.Verdict.{Called, stages_by, stages_of}
+use Rattle.pm_calls.specs.Shapes.{Shape, Other_suspend, Own_abort, Own_arming, Own_notifier, Own_row, Own_suspend, keeps_values, row_node, shaped}
+use Rattle.pm_calls.specs.Verdict.{Called, stages_of}
 use Rattle.pm_calls.specs.Views.{row_view_at}
 use Rattle.pm_calls.specs.calls.{called, shape_of}
 use Rattle.pm_calls.specs.calls.SetWakeupSource.{arming}
+use Rattle.pm_calls.proofs.ShapeLaw.{called_shaped}
 use Rattle.pm_tell.specs.declared.served.Served.{Served}
 use Rattle.pm_values.specs.declared.caches.Caches.{Caches}
 use Rattle.pm_values.specs.declared.touches.Touched.TheVariants.{Nothing}
@@ -39,8 +38,9 @@ use Rattle.pm_values.specs.Along.{IsTrail, Trail, modes_of}
 use Rattle.pm_values.specs.Caches.{AreKept}
 use Rattle.pm_values.specs.Starts.{was_down}
 use Rattle.pm_values.specs.Touches.{ChangesModes, ChangesRows, IsOfModes, IsStill, IsTouched, with_core}
-use Rattle.pm_step.specs.Step.{call_at, is_action, keeps_values, leaves_values, may_call, may_change, message_stages, path, row_node, served, stages, touched, touched_at, touched_by, touched_unless}
+use Rattle.pm_step.specs.Step.{call_at, is_action, leaves_values, may_change, message_stages, path, served, stages, touched, touched_at, touched_by, touched_unless}
 use Rattle.pm_step.proofs.AwakeLaw.{LeavesValues, none_leaves, same_twice}
+use Rattle.pm_step.proofs.MessageLaw.{of_message}
 use Rattle.pm_step.proofs.ModesLaw.{event_turns}
 use Rattle.pm_step.proofs.QuietLaw.{event_leaves}
 use Rattle.pm_step.proofs.Refused.{none_staged}
@@ -158,22 +158,6 @@ view_leaves m s by book place sound is =
 
 -- ---- a message
 
-by_cause : (s : ℕ) (book : State) (cause : Cause) (stages : List (List Prim)) → LeavesOthers s book stages → LeavesOthers s book (stages_by cause stages)
-by_cause s book (Stands Fits) stages leaves = leaves
-by_cause s book _ stages leaves = none_leave s book
-
-call_leaves : (s : ℕ) (call : Call) (book : State) (m : ℕ) (heard : Bool) → LeavesOthers s book (called m call book).stages → LeavesOthers s book (message_stages (if heard then Some (called m call book) else None))
-call_leaves s call book m true leaves = by_cause s book (first_failing (called m call book).checks) (called m call book).stages leaves
-call_leaves s call book m false leaves = none_leave s book
-
-message_leaves : (s : ℕ) (call : Call) (book : State) (place : Option ℕ) → ((m : ℕ) → LeavesOthers s book (called m call book).stages) → LeavesOthers s book (message_stages (option_and_then (call_at call book) place))
-message_leaves s call book None leaves = none_leave s book
-message_leaves s call book (Some m) leaves = call_leaves s call book m (may_call m book) (leaves m)
-
-called_shaped : (m : ℕ) (call : Call) (book : State) → called m call book ≡ shaped m (shape_of call) book
-called_shaped m GetApiVersion book = refl
-called_shaped m _ book = refl
-
 -- what is kept before these stages
 record IsBefore (book : State) (stages : List (List Prim)) (modes : List Mode) (along : Trail) (caches : Caches) : Type 0 where
   pub sound : IsSound book
@@ -226,13 +210,13 @@ shape_touched : (call : Call) (shape : Shape) (place : Option ℕ) (book : State
     → IsTouched (if keeps_values shape then Nothing else touched_at (option_and_then (λ node. slave_place node book) (row_node shape))) modes (after_stages (message_stages (option_and_then (call_at call book) place)) book) along caches
 shape_touched call (Own_row node by of) place book modes along caches is before =
     place_touched (slave_place node book) book (message_stages (option_and_then (call_at call book) place)) modes along caches before
-    (λ s at. message_leaves s call book place (λ m.
+    (λ s at. of_message (LeavesOthers s book) (none_leave s book) call book place (λ m.
     let Q : Called → Type 0 = λ c. LeavesOthers s book c.stages in
     let shapes : called m call book ≡ shaped m (Own_row node by of) book = called_shaped m call book ∙ ap (λ shape. shaped m shape book) is in
     subst Q (sym shapes) (view_leaves m s (by (mode_of_master book.fixed book.now.core m)) book (slave_place node book) before.sound at)))
 shape_touched call (Own_arming target source enable) place book modes along caches is before =
     place_touched (slave_place source book) book (message_stages (option_and_then (call_at call book) place)) modes along caches before
-    (λ s at. message_leaves s call book place (λ m.
+    (λ s at. of_message (LeavesOthers s book) (none_leave s book) call book place (λ m.
     let Q : Called → Type 0 = λ c. LeavesOthers s book c.stages in
     let shapes : called m call book ≡ shaped m (Own_arming target source enable) book = called_shaped m call book ∙ ap (λ shape. shaped m shape book) is in
     subst Q (sym shapes) (view_leaves m s (arming target enable) book (slave_place source book) before.sound at)))

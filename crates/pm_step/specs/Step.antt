@@ -27,7 +27,7 @@ use Rattle.pm_values.specs.declared.touches.Touched.{Touched}
 use Rattle.pm_values.specs.declared.touches.Touched.TheVariants.{All, Modes, Nothing, Rows}
 use Rattle.pm_values.specs.Turns.{turns_along}
 use Rattle.pm_calls.specs.Events.{boot, wait, interrupt, raised}
-use Rattle.pm_calls.specs.Shapes.{Shape, Other_suspend, Own_abort, Own_arming, Own_notifier, Own_row, Own_suspend}
+use Rattle.pm_calls.specs.Shapes.{keeps_values, row_node}
 use Rattle.pm_calls.specs.calls.{called, is_once, only_reads, shape_of}
 use Rattle.pm_state.specs.Members.{mode_of_master}
 use Rattle.pm_values.specs.Notifications.{notifications}
@@ -186,21 +186,6 @@ rests event served = not (may_change event served) && is_once_in served
 -- nothing comes of an event but the answer to its sender: it has no stage, and no time passes
 abbrev pub is_quiet : Event → Option Served → Option ℕ → Bool
 is_quiet event served count = rests event served && is_none count
-
--- a call of this shape changes no value: the caller is told of a node, another master is asked to suspend, or a
--- processor of the caller that is active starts to suspend, or goes on in place of suspending
-abbrev pub keeps_values : Shape → Bool
-keeps_values (Own_notifier node event enable) = true
-keeps_values (Other_suspend node ack latency state) = true
-keeps_values (Own_suspend node address) = true
-keeps_values (Own_abort node reason) = true
-keeps_values _ = false
-
--- the node of the slave on which a call of this shape changes the caller's row; then it changes nothing else of the book
-abbrev pub row_node : Shape → Option NodeId
-row_node (Own_row node by call) = Some node
-row_node (Own_arming target source enable) = Some source
-row_node _ = None
 
 -- a call leaves all processors in their modes: it only reads the book, or changes a row of the caller
 abbrev pub keeps_procs : Call → Bool

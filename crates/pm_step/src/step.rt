@@ -2,16 +2,18 @@
 
 ghost use Rattle.std.specs.Prelude.{◌≡◌, false, is_some, length, true};
 ghost use Rattle.pm_topology.specs.Places.{kind_of};
-ghost use Rattle.pm_calls.specs.calls.{is_once, only_reads, shape_of};
+ghost use Rattle.pm_calls.specs.calls.{is_once};
 ghost use Rattle.pm_values.specs.Caches.{AreKept};
 ghost use Rattle.pm_state.specs.Stages.{after_stages, path_from};
-ghost use Rattle.pm_step.specs.Step.{call_in, configures, is_action, is_proc_in, keeps_procs, keeps_values, leaves_values, may_call, may_change, may_move, is_idle, is_ipi, is_once_in, is_quiet, message_stages, path, rests, row_node, row_place, served, stages, time_of, touched, touched_at, touched_in, touched_unless, verdict as verdict_on};
+ghost use Rattle.pm_step.specs.Step.{call_in, configures, is_action, is_proc_in, keeps_procs, leaves_values, may_call, may_change, may_move, is_idle, is_ipi, is_once_in, is_quiet, message_stages, path, rests, row_place, served, stages, time_of, touched, touched_at, touched_in, touched_unless, verdict as verdict_on};
 ghost use Rattle.pm_step.specs.Fresh.{IsFresh};
 ghost use Rattle.pm_tell.specs.Telling.{HasPlaces};
 ghost use Rattle.pm_values.specs.Along.{Completes, IsTrail, modes_of, trail_from};
 
 use pm_base::{Event, Mode, NodeId};
-use pm_calls::{Verdict, boot, interrupt, raise, serve, wait};
+use pm_calls::{
+    Verdict, boot, interrupt, is_once, keeps_values, only_reads, raise, row_node, serve, wait,
+};
 use pm_ipi::{Call, decode_call};
 use pm_procs::{is_awake, same_mode};
 use pm_state::Tables;
@@ -203,19 +205,6 @@ fn is_action(event: &Event) -> bool
     )
 }
 
-/// Whether a call only reads the book.
-fn only_reads(call: &Call) -> bool
-    ensures { result ≡ only_reads call.now }
-{
-    matches!(
-        call,
-        Call::GetApiVersion
-            | Call::GetNodeStatus { .. }
-            | Call::GetOpCharacteristic { .. }
-            | Call::ResetGetStatus { .. }
-    )
-}
-
 /// Whether a call leaves all processors in their modes: it only reads the book, or changes a row of the caller.
 pub(crate) fn keeps_procs(call: &Call) -> bool
     ensures { result ≡ keeps_procs call.now }
@@ -242,16 +231,6 @@ fn may_change(event: &Event, served: &Option<Served>) -> bool
         Some(served) => matches!(served.verdict, Verdict::Accepted(_)) && !only_reads(&served.call),
         None => is_action(event),
     }
-}
-
-/// Whether a call has one stage at most: it is none that takes processors down.
-fn is_once(call: &Call) -> bool
-    ensures { result ≡ is_once call.now }
-{
-    !matches!(
-        call,
-        Call::ForcePowerdown { .. } | Call::SystemShutdown { .. }
-    )
 }
 
 /// Whether an event is no message of a call with more stages than one.
@@ -359,20 +338,6 @@ fn touched_in(tables: &Tables, call: &Call) -> Touched
     touched_at(row_place(tables, call))
 }
 
-/// Whether a call changes no value: the caller is told of a node, another master is asked to suspend, or a processor
-/// of the caller that is active starts to suspend, or goes on in place of suspending.
-fn keeps_values(call: &Call) -> bool
-    ensures { result ≡ keeps_values (shape_of call.now) }
-{
-    matches!(
-        call,
-        Call::RegisterNotifier { .. }
-            | Call::RequestSuspend { .. }
-            | Call::SelfSuspend { .. }
-            | Call::AbortSuspend { .. }
-    )
-}
-
 fn touched_at(place: Option<usize>) -> Touched
     ensures { result ≡ touched_at place }
 {
@@ -389,19 +354,5 @@ fn row_place(tables: &Tables, call: &Call) -> Option<usize>
     match row_node(call) {
         Some(node) => tables.slave_place(node),
         None => None,
-    }
-}
-
-/// The node of that slave. Such a call changes nothing else of the book.
-fn row_node(call: &Call) -> Option<NodeId>
-    ensures { result ≡ row_node (shape_of call.now) }
-{
-    match call {
-        Call::RequestNode { node, .. }
-        | Call::ReleaseNode { node }
-        | Call::SetRequirement { node, .. }
-        | Call::SetMaxLatency { node, .. } => Some(*node),
-        Call::SetWakeupSource { source, .. } => Some(*source),
-        _ => None,
     }
 }
