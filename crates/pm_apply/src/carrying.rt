@@ -78,7 +78,7 @@ impl Carrying {
     }
 
     /// The same for a record of the book's units, whose values are read at their places.
-    pub(crate) fn finish(kept: &mut Kept, book: &Book, out: &Outbox) -> Answer
+    pub(crate) fn end_at_places(kept: &mut Kept, book: &Book, out: &Outbox) -> Answer
         requires stands { StandsElsewhere (λ u. value u book.now) kept.old }
         requires units { units_in kept.old ≡ units_of book.now.fixed.topology }
         ensures kept { kept.new ≡ marked (λ u. value u book.now) kept.old }

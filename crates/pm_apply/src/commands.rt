@@ -133,5 +133,5 @@ fn carry_on<D: Device>(dev: &mut D, kept: &mut Kept, book: &Book, out: &mut Outb
     unit_maps::<KeptValue>();
     let _left = Carrying::begin(kept, book, out);
     take_turns(dev, kept, book, out);
-    out.answer = Carrying::finish(kept, book, out);
+    out.answer = Carrying::end_at_places(kept, book, out);
 }

@@ -1,5 +1,4 @@
-//! Laws of the notifiers and of the notes that wait. Each is a record of facts, which stands with its
-//! definitions.
+//! Laws of the notifiers and of the notes that wait. Most are a record of facts, which stands with the definitions.
 
 ghost use Rattle.std.specs.Prelude.{List};
 ghost use Rattle.pm_notify.specs.MasterNotes.{MasterNotes};

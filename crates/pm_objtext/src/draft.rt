@@ -245,6 +245,7 @@ impl Draft {
     {
         if let Some(cause) = self.end_cause() {
             let fault = self.fault(cause);
+            // Let go here, at a type that is any, which costs less to prove.
             drop(self);
             return Err(fault);
         }

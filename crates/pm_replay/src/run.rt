@@ -171,6 +171,7 @@ fn run_named<I: Inputs, O: Sink, D: Device, H: Responder, T: Handler>(
     match inputs.begin(script) {
         Ok(id) => run_begun(alloc, object, topology, inputs, id, out, dev, board),
         Err(Failed) => {
+            // Let go here, at a type that is any, which costs less to prove.
             drop((object, topology));
             refuse(Fault::Read, out)
         }

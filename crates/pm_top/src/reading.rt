@@ -79,6 +79,7 @@ fn read_rest<I: Inputs>(
             words,
         ),
         Err(fault) => {
+            // Let go here, at a type that is any, which costs less to prove.
             drop(object);
             Err(fault)
         }
@@ -133,6 +134,7 @@ fn with_master(
             lines,
         }),
         None => {
+            // Let go here, at a type that is any, which costs less to prove.
             drop((object, topology));
             Err(Fault::Node)
         }

@@ -153,7 +153,7 @@ fn choose_if(
         return;
     }
     let state = state_of(tables, s);
-    wake_unless(is_as_kept(tables, s, state, states, used), s, kinds);
+    wake_slave_unless(is_as_kept(tables, s, state, states, used), s, kinds);
     choose_at(tables, s, state, states, needs, power);
 }
 
@@ -172,7 +172,7 @@ pub(crate) fn is_as_kept(
 }
 
 /// The slave at a place doesn't rest from now on, unless it is as it is kept.
-fn wake_unless(kept: bool, s: usize, kinds: &mut Kinds)
+fn wake_slave_unless(kept: bool, s: usize, kinds: &mut Kinds)
     ensures items { kinds.new.items ≡ kinds.old.items }
     ensures rests { (k : ℕ) → slice_get kinds.old.items k ≡ Some (Entry (Slave s)) → rests_at kinds.new.awake k ≡ true
         → kept ≡ true }

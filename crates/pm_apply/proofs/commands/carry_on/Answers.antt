@@ -7,11 +7,11 @@ use Rattle.pm_apply.proofs.commands.carry_on.Goals as goal
 pub take_turns-requires-clause-ready : goal.take_turns-requires-clause-ready
 take_turns-requires-clause-ready g c = c.begin-left.ensures.followed.ready
 
-pub finish-out-requires-clause-stands : goal.finish-out-requires-clause-stands
-finish-out-requires-clause-stands g c = c.take_turns.ensures.followed.ready.stands
+pub end_at_places-out-requires-clause-stands : goal.end_at_places-out-requires-clause-stands
+end_at_places-out-requires-clause-stands g c = c.take_turns.ensures.followed.ready.stands
 
-pub finish-out-requires-clause-units : goal.finish-out-requires-clause-units
-finish-out-requires-clause-units g c = c.take_turns.ensures.followed.units
+pub end_at_places-out-requires-clause-units : goal.end_at_places-out-requires-clause-units
+end_at_places-out-requires-clause-units g c = c.take_turns.ensures.followed.units
 
 pub returns : goal.returns
 returns g c =
@@ -21,8 +21,8 @@ returns g c =
       left = c.take_turns.new.kept;
       alike = c.begin-left.ensures.alike;
       takes = c.take_turns.ensures.takes;
-      marks = c.finish-out.ensures.kept;
-      answer = told_then values c.args.out.now c.take_turns.new.out c.finish-out.result c.finish-out.new.kept c.take_turns.ensures.rest c.finish-out.ensures.answer;
+      marks = c.end_at_places-out.ensures.kept;
+      answer = told_then values c.args.out.now c.take_turns.new.out c.end_at_places-out.result c.end_at_places-out.new.kept c.take_turns.ensures.rest c.end_at_places-out.ensures.answer;
       rest = record {
         room = c.take_turns.ensures.rest.room;
         moved = c.take_turns.ensures.rest.moved;
