@@ -79,7 +79,8 @@ impl LineReader {
         ensures fault { result ≡ Taken.Fault → Rose (I.state inputs.old).faults (I.state inputs.new).faults }
         // Where the inputs are observable, Fault comes only where the input stands at its failing byte.
         ensures stuck { I.observable → result ≡ Taken.Fault → IsStuck ((I.state inputs.new).input id) }
-        // It read on in this input and did nothing else, and nothing after it saw the end or took the byte past the limit.
+        // It read on in this input and did nothing else, and nothing after it saw the end or took the byte past the
+        // limit.
         ensures reads { Meanwhile (I.state inputs.old) (I.state inputs.new) (HasRead result id self.old self.new) }
     {
         loop {

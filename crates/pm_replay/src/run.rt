@@ -97,19 +97,19 @@ pub fn replay<I: Inputs, O: Sink, D: Device, H: Responder, T: Handler>(
     ensures keeps { RunsKeepApart D.Device object topology dev.old dev.new }
     // Each answer of a run has its causes in the book before its step.
     ensures causes { AnswersHaveCauses object topology }
-    // Each line of a run that serves sends the messages in all boxes, each once and by rising mask of their masters, and
-    // leaves all boxes empty.
+    // Each line of a run that serves sends the messages in all boxes, each once and by rising mask of their masters,
+    // and leaves all boxes empty.
     ensures boxes { LinesServe object topology }
-    // The line of a power call is the run of the events that it is lowered to by the chip and the call alone, and then its
-    // answer; and so is a script with power calls the script with a line for each of these events.
+    // The line of a power call is the run of the events that it is lowered to by the chip and the call alone, and then
+    // its answer; and so is a script with power calls the script with a line for each of these events.
     ensures calls { LowersCalls object topology }
-    // Each line of a run tells exactly the calls of tasks that are due in it, and a task that is stored before and after
-    // was called as often as the lines tell, modulo 2 ^ 32.
+    // Each line of a run tells exactly the calls of tasks that are due in it, and a task that is stored before and
+    // after was called as often as the lines tell, modulo 2 ^ 32.
     ensures tasks { TellsCalls object topology (standing H.Responder T.Handler modules.now tasks.old) }
-    // In each run, at its load and after each core step, the clocks are those that the calls on them so far left, if they
-    // weren't refused, without the enables of masters that are off or may not use the clock's slave any more; a root
-    // runs where its slave is in a state other than 0, and any other clock where a master enables it and the parent that
-    // is chosen for it runs.
+    // In each run, at its load and after each core step, the clocks are those that the calls on them so far left, if
+    // they weren't refused, without the enables of masters that are off or may not use the clock's slave any more; a
+    // root runs where its slave is in a state other than 0, and any other clock where a master enables it and the
+    // parent that is chosen for it runs.
     ensures clocks { ClocksFollow object topology }
     // On every exit, of any inputs: the script is begun once, and read to its end or to one byte past the limit, or up
     // to a call that failed, or, where the run ends before, up to somewhere. Nothing else is begun or read.

@@ -103,9 +103,9 @@ pub fn pm_main<I: Inputs, O: Sink, D: Device, H: Responder, T: Handler>(
     // and a task that is stored before and after was called as often as the lines tell it.
     ensures tasks { EachTellsCalls (standing H.Responder T.Handler modules.now tasks.old) }
     // At the load of a run of whichever object and topology, and after each of its core steps, the clocks are as the
-    // calls left them that weren't refused, without the enables of masters that are off or may not use the clock's slave
-    // by the object in force. A root runs where its slave is in a state other than 0, and any other clock where a master
-    // enables it and the parent that is chosen for it runs.
+    // calls left them that weren't refused, without the enables of masters that are off or may not use the clock's
+    // slave by the object in force. A root runs where its slave is in a state other than 0, and any other clock where
+    // a master enables it and the parent that is chosen for it runs.
     ensures clocks { EachFollowsClocks }
     // On every exit, of any inputs: the names that the words give are begun in the order of the work, each once, and
     // read to the end or to one byte past the limit, or up to where the run ends before that; nothing else is begun or
