@@ -66,7 +66,8 @@ pub fn serve(
     }
 }
 
-/// A call of one stage at most.
+/// A call of one stage at most: one that only reads, or by which a master or a processor suspends, goes on or wakes. The
+/// others follow in `serve_changing`.
 fn serve_once(
     tables: &mut Tables,
     caches: &Caches,
@@ -80,31 +81,6 @@ fn serve_once(
     ensures book { tables.new ≡ after_stages (stages_of (called master call.now tables.old)) tables.old }
 {
     match call {
-        Call::GetApiVersion
-        | Call::GetNodeStatus { .. }
-        | Call::GetOpCharacteristic { .. }
-        | Call::ResetGetStatus { .. } => serve_reading(tables, caches, master, call, verdict),
-        Call::RequestSuspend { .. }
-        | Call::SelfSuspend { .. }
-        | Call::AbortSuspend { .. }
-        | Call::RequestWakeup { .. } => serve_suspending(tables, master, call, verdict),
-        _ => serve_changing(tables, master, call, verdict),
-    }
-}
-
-/// A call that only reads.
-fn serve_reading(
-    tables: &Tables,
-    caches: &Caches,
-    master: usize,
-    call: &Call,
-    verdict: &mut Verdict,
-)
-    requires kept { AreKept tables.now caches.now }
-    requires reads { only_reads call.now ≡ true }
-    ensures { verdict.new ≡ verdict_of (called master call.now tables.now) }
-{
-    match call {
         Call::GetApiVersion => get_api_version::serve(verdict),
         Call::GetNodeStatus { node } => {
             get_node_status::serve(tables, caches, master, *node, verdict);
@@ -114,17 +90,6 @@ fn serve_reading(
             characteristic,
         } => get_op_characteristic::serve(tables, caches, *node, *characteristic, verdict),
         Call::ResetGetStatus { line } => reset_get_status::serve(tables, *line, verdict),
-        _ => unreachable!(),
-    }
-}
-
-/// A call by which a master or a processor suspends, goes on or wakes.
-fn serve_suspending(tables: &mut Tables, master: usize, call: &Call, verdict: &mut Verdict)
-    requires { is_suspending call.now ≡ true }
-    ensures verdict { verdict.new ≡ verdict_of (called master call.now tables.old) }
-    ensures book { tables.new ≡ after_stages (stages_of (called master call.now tables.old)) tables.old }
-{
-    match call {
         Call::RequestSuspend {
             node,
             ack,
@@ -140,11 +105,12 @@ fn serve_suspending(tables: &mut Tables, master: usize, call: &Call, verdict: &m
         Call::RequestWakeup { node, address, ack } => {
             request_wakeup::serve(tables, master, *node, *address, *ack, verdict);
         }
-        _ => unreachable!(),
+        _ => serve_changing(tables, master, call, verdict),
     }
 }
 
-/// Another call of one stage at most: it changes a row, a notifier, a reset line or the object in force.
+/// Another call of one stage at most: it changes a row, a notifier, a reset line or the object in force. One of a number
+/// that no call has is refused.
 fn serve_changing(tables: &mut Tables, master: usize, call: &Call, verdict: &mut Verdict)
     requires once { is_once call.now ≡ true }
     requires changes { only_reads call.now ≡ false }

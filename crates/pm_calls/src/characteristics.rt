@@ -1,4 +1,4 @@
-//! The operating characteristics of a node as it stands (UG1200, PM_GET_OP_CHARACTERISTIC).
+//! The operating characteristics of a node in its present state (UG1200, PM_GET_OP_CHARACTERISTIC).
 
 ghost use Rattle.std.specs.Prelude.{◌≡◌, option_map, slice_get};
 ghost use Rattle.pm_topology.specs.declared.topology.SlaveDef.{SlaveDef as Slave};
@@ -10,15 +10,15 @@ use pm_state::Tables;
 use pm_topology::{Kind, SlaveDef};
 use pm_values::{Caches, value};
 
-/// The power figure of a node as it stands, and how long it takes to leave that. Both are plain numbers, each
-/// in a unit of this project's own.
+/// The power figure of a node in its present state, and the latency of leaving that state. Both are plain numbers,
+/// each in a unit of this project's own.
 #[derive(Clone, Copy, Debug, PartialEq, Eq)]
 pub struct Characteristics {
     pub figure: u32,
     pub latency: u32,
 }
 
-/// What a processor or power node has that is up or down.
+/// The characteristics of a processor or power node, by whether it is up.
 fn powered(figure: u32, latency: u32, up: bool) -> Characteristics
     ensures { result ≡ powered figure latency up }
 {
@@ -29,7 +29,7 @@ fn powered(figure: u32, latency: u32, up: bool) -> Characteristics
     }
 }
 
-/// What a slave has in a state.
+/// The characteristics of a slave in a state.
 fn in_state(slave: &SlaveDef, state: u32) -> Characteristics
     ensures { result ≡ in_state (slice_get slave.now.states state) }
 {

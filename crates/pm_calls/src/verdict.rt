@@ -42,8 +42,8 @@ pub enum Say {
     Unwatch,
 }
 
-/// What an accepted call does besides its changes of the book: the words that it tells its caller, what
-/// the masters are told, and the reset line that it pulses.
+/// What an accepted call does besides its changes of the book, which are made as it is served: the words that it tells
+/// its caller, what the masters are told, and the reset line that it pulses.
 #[derive(Clone, Copy, Debug, PartialEq, Eq)]
 pub struct Effects {
     pub words: [u32; 3],
@@ -63,53 +63,6 @@ pub enum Verdict {
 }
 
 impl Verdict {
-    /// The call is refused with this status.
-    pub fn refused(status: u32) -> Verdict
-        ensures { result ≡ verdict.Refused (refusal status) }
-    {
-        Verdict::Refused(Response::refusal(status))
-    }
-
-    /// The call tells these words.
-    pub fn told(words: [u32; 3]) -> Verdict
-        ensures { result ≡ verdict.Accepted (told words) }
-    {
-        Verdict::Accepted(Effects {
-            words,
-            says: None,
-            pulse: None,
-        })
-    }
-
-    /// The call is done, and tells nothing.
-    pub fn done() -> Verdict
-        ensures { result ≡ verdict.Accepted (saying None) }
-    {
-        Verdict::told([0; 3])
-    }
-
-    /// The call has the masters told this.
-    pub fn saying(say: Say) -> Verdict
-        ensures { result ≡ verdict.Accepted (saying (Some say)) }
-    {
-        Verdict::Accepted(Effects {
-            words: [0; 3],
-            says: Some(say),
-            pulse: None,
-        })
-    }
-
-    /// The call pulses this reset line, if there is one.
-    pub fn pulsing(line: Option<LineId>) -> Verdict
-        ensures { result ≡ verdict.Accepted (pulsing line) }
-    {
-        Verdict::Accepted(Effects {
-            words: [0; 3],
-            says: None,
-            pulse: line,
-        })
-    }
-
     /// The call is refused with this response.
     pub(crate) fn refuse_by(&mut self, response: Response)
         ensures { self.new ≡ verdict.Refused response }
@@ -121,35 +74,47 @@ impl Verdict {
     pub(crate) fn refuse(&mut self, status: u32)
         ensures { self.new ≡ verdict.Refused (refusal status) }
     {
-        *self = Verdict::refused(status);
+        *self = Verdict::Refused(Response::refusal(status));
     }
 
     /// The call tells these words.
     pub(crate) fn tell(&mut self, words: [u32; 3])
         ensures { self.new ≡ verdict.Accepted (told words) }
     {
-        *self = Verdict::told(words);
+        *self = Verdict::Accepted(Effects {
+            words,
+            says: None,
+            pulse: None,
+        });
     }
 
     /// The call is done, and tells nothing.
     pub(crate) fn finish(&mut self)
         ensures { self.new ≡ verdict.Accepted (saying None) }
     {
-        *self = Verdict::done();
+        self.tell([0; 3]);
     }
 
     /// The call has the masters told this.
     pub(crate) fn say(&mut self, say: Say)
         ensures { self.new ≡ verdict.Accepted (saying (Some say)) }
     {
-        *self = Verdict::saying(say);
+        *self = Verdict::Accepted(Effects {
+            words: [0; 3],
+            says: Some(say),
+            pulse: None,
+        });
     }
 
     /// The call pulses this reset line, if there is one.
     pub(crate) fn pulse_by(&mut self, line: Option<LineId>)
         ensures { self.new ≡ verdict.Accepted (pulsing line) }
     {
-        *self = Verdict::pulsing(line);
+        *self = Verdict::Accepted(Effects {
+            words: [0; 3],
+            says: None,
+            pulse: line,
+        });
     }
 
     /// What the masters are told.
