@@ -7,7 +7,7 @@ ghost use Rattle.pm_record.specs.declared.kept.KeptValue.{KeptValue as Entry};
 ghost use Rattle.pm_record.specs.Record.{no_supply, supplied, supply_of};
 
 use crate::kept::KeptValue;
-use pm_base::Unit;
+use pm_base::{Unit, at_or};
 use pm_topology::{Topology, UnitMap, needs_power, parent_of_unit, unit_map_places};
 
 /// The supply of a unit: the place of the power node directly above it, if there is one, and in which of the values 0 to
@@ -32,7 +32,7 @@ pub(crate) fn no_supply() -> Supply
 pub fn powers_at(supply: Supply, value: u32) -> bool
     ensures { result ≡ unwrap_or (slice_get supply.powered value) false }
 {
-    supply.powered.get(value as usize).copied().unwrap_or(false)
+    at_or(&supply.powered, value as usize, false)
 }
 
 /// The supply of a unit of a chip. A reset line stands below no power node.
