@@ -12,7 +12,7 @@ mod replies;
 
 pub use book::Book;
 pub use outbox::{Done, Outbox};
-pub use pm_state::members_are_owned;
+pub use pm_state::{loads_are_sound, members_are_owned};
 pub use pm_step::{books_stay_sound, configures, only_one_call_configures};
 pub use pm_tell::{Callback, Late};
 pub use pm_values::{Start, values_are_fed, values_meet};

@@ -38,11 +38,10 @@ ghost use Rattle.pm_laws.specs.Seen.{seen, seen_part, IsUnseen, AreAlike, AreHid
 ghost use Rattle.pm_laws.specs.SeenTalk.{seen_talk, talk_part, IsTalkUnseen, asks_beyond, ends_beyond};
 ghost use Rattle.pm_laws.specs.Values.{is_beyond, starts_beyond};
 
-use pm_core::members_are_owned;
+use pm_core::{loads_are_sound, members_are_owned};
 use pm_grants::{grants_are_permissions, some_grants_are_permissions};
 use pm_reach::{masters_within, parents_within, reach_is_decided, units_within};
 use pm_rows::shifts_leave_others;
-use pm_state::loads_are_sound;
 use pm_topology::{kinds_are_exact, units_stand_in_order};
 
 /// What the crates below promise of kinds, rows, processors and units.
