@@ -1,49 +1,83 @@
 -- The needs of children are set one after another.
-use Rattle.std.proofs.Common.{◌≡◌, ℕ, ◌+◌, ◌<◌, ◌≤◌, Bool, false, List, [], ◌∷◌, ◌++◌, length, take, drop, get_or, slice_get, unwrap_or, refl, zero, suc, arith, ap, sym, ◌∙◌, subst}
+use Rattle.std.proofs.Common.{◌≡◌, ℕ, ◌+◌, ◌-◌, ◌<◌, ◌≤◌, Bool, false, List, [], ◌∷◌, ◌++◌, length, min, drop, slice_get, unwrap_or, refl, zero, suc, arith, ap, sym, ◌∙◌}
 use Rattle.std.specs.Prelude.{slice_set, Some}
 use Rattle.std.proofs.lemmas.List.{length-set}
-use Rattle.std.proofs.lemmas.Option.{slice_get_within, slice_get-get_or}
+use Rattle.std.proofs.lemmas.Option.{slice_get_within}
 use Rattle.pm_topology.specs.declared.topology.PowerDef.{PowerDef}
 use Rattle.pm_power.specs.declared.child.Child.{Child}
-use Rattle.pm_power.specs.Needs.{child, with_need_at, with_needs}
+use Rattle.pm_power.specs.Needs.{child, with_need_at, with_needs, with_needs_in}
 use Rattle.pm_power.specs.Uses.{WasPut, with_need}
 
+need_left : (j : ℕ) (needs : List Bool) → unwrap_or (slice_get (drop j needs) zero) false ≡ unwrap_or (slice_get needs j) false
+need_left zero needs = refl
+need_left (suc j) [] = refl
+need_left (suc j) (need ∷ needs) = need_left j needs
+
+later_left : (j : ℕ) (needs : List Bool) → drop (suc zero) (drop j needs) ≡ drop (suc j) needs
+later_left zero needs = refl
+later_left (suc j) [] = refl
+later_left (suc j) (need ∷ needs) = later_left j needs
+
 -- what is left once one more need is set, and what was left before it
-set_first : (needs : List Bool) (c : Child) (cs : List Child) (d : Child) → d ≡ child c.node c.parent (unwrap_or (slice_get needs zero) false) → d ∷ with_needs (drop (suc zero) needs) cs ≡ with_needs needs (c ∷ cs)
-set_first [] c cs d is = ap (λ (x : Child). x ∷ with_needs [] cs) is
-set_first (need ∷ needs) c cs d is = ap (λ (x : Child). x ∷ with_needs needs cs) is
+set_first : (count : ℕ) (needs : List Bool) (c : Child) (cs : List Child) (on : Bool) → on ≡ unwrap_or (slice_get needs zero) false
+    → with_need on c ∷ with_needs_in zero count (drop (suc zero) needs) cs ≡ with_needs_in zero (suc count) needs (c ∷ cs)
+set_first count [] c cs on is = ap (λ (b : Bool). child c.node c.parent b ∷ with_needs_in zero count [] cs) is
+set_first count (need ∷ needs) c cs on is = ap (λ (b : Bool). child c.node c.parent b ∷ with_needs_in zero count needs cs) is
 
-none_left : (k : ℕ) → drop {A = Bool} k [] ≡ []
-none_left zero = refl
-none_left (suc k) = refl
-
-set_at : (needs : List Bool) (cs : List Child) (k : ℕ) (e d : Child) → k < length cs → d ≡ child (get_or cs k e).node (get_or cs k e).parent (unwrap_or (slice_get needs k) false) → take (suc k) (slice_set cs k d) ++ with_needs (drop (suc k) needs) (drop (suc k) (slice_set cs k d)) ≡ take k cs ++ with_needs (drop k needs) (drop k cs)
-set_at needs [] k e d within is = absurd (omega arith)
-set_at needs (c ∷ cs) zero e d within is = set_first needs c cs d is
-set_at [] (c ∷ cs) (suc k) e d within is =
-    ap (λ xs. c ∷ xs) (set_at [] cs k e d (omega arith) is ∙ ap (λ (ns : List Bool). take k cs ++ with_needs ns (drop k cs)) (none_left k))
-set_at (need ∷ needs) (c ∷ cs) (suc k) e d within is = ap (λ xs. c ∷ xs) (set_at needs cs k e d (omega arith) is)
-
-pub need_step : (needs : List Bool) (cs : List Child) (k : ℕ) (e d : Child) (whole : List Child) → k < length cs → d ≡ child (get_or cs k e).node (get_or cs k e).parent (unwrap_or (slice_get needs k) false) → take k cs ++ with_needs (drop k needs) (drop k cs) ≡ whole → take (k + 1) (slice_set cs k d) ++ with_needs (drop (k + 1) needs) (drop (k + 1) (slice_set cs k d)) ≡ whole
-need_step needs cs k e d whole within is before =
-    let next : suc k ≡ k + 1 = omega arith in
-    let P : ℕ → Type 0 = λ n. take n (slice_set cs k d) ++ with_needs (drop n needs) (drop n (slice_set cs k d)) ≡ whole in
-    subst P next (set_at needs cs k e d within is ∙ before)
+set_at : (k count : ℕ) (needs : List Bool) (cs : List Child) (c : Child) (on : Bool) → slice_get cs k ≡ Some c → on ≡ unwrap_or (slice_get needs zero) false
+    → with_needs_in (suc k) count (drop (suc zero) needs) (slice_set cs k (with_need on c)) ≡ with_needs_in k (suc count) needs cs
+set_at k count needs [] c on at is = absurd (omega (arith, slice_get_within [] k c at))
+set_at zero count needs (d ∷ cs) c on at is =
+    let same : d ≡ c = cc in
+    ap (λ (e : Child). with_need on e ∷ with_needs_in zero count (drop (suc zero) needs) cs) (sym same) ∙ set_first count needs d cs on is
+set_at (suc k) count needs (d ∷ cs) c on at is = ap (λ xs. d ∷ xs) (set_at k count needs cs c on at is)
 
 -- one need was put: one child more is done
-pub put_step : (needs : List Bool) (cs : List Child) (k : ℕ) (on : Bool) (next : List Child) (powers : List PowerDef) (before after : ℕ) (whole : List Child)
-    → WasPut k on cs next powers before after → on ≡ unwrap_or (slice_get needs k) false
-    → take k cs ++ with_needs (drop k needs) (drop k cs) ≡ whole
-    → take (k + 1) next ++ with_needs (drop (k + 1) needs) (drop (k + 1) next) ≡ whole
-put_step needs cs k on next powers before after whole put is done =
-    let within = slice_get_within cs k put.child put.here in
-    let both : Some put.child ≡ Some (get_or cs k put.child) = sym put.here ∙ slice_get-get_or cs k put.child within in
-    let same : put.child ≡ get_or cs k put.child = cc in
-    let this : child put.child.node put.child.parent on ≡ child (get_or cs k put.child).node (get_or cs k put.child).parent (unwrap_or (slice_get needs k) false) =
-    ap (λ (c : Child). child c.node c.parent on) same ∙ ap (child (get_or cs k put.child).node (get_or cs k put.child).parent) is
-    in
-    let P : List Child → Type 0 = λ xs. take (k + 1) xs ++ with_needs (drop (k + 1) needs) (drop (k + 1) xs) ≡ whole in
-    subst P (sym put.put) (need_step needs cs k put.child (child put.child.node put.child.parent on) whole within this done)
+pub put_step : (needs : List Bool) (cs : List Child) (from to k : ℕ) (on : Bool) (next : List Child) (powers : List PowerDef) (before after : ℕ) (whole : List Child)
+    → WasPut k on cs next powers before after → on ≡ unwrap_or (slice_get needs (k - from)) false → from ≤ k → k < to
+    → with_needs_in k (to - k) (drop (k - from) needs) cs ≡ whole
+    → with_needs_in (k + 1) (to - (k + 1)) (drop (k + 1 - from) needs) next ≡ whole
+put_step needs cs from to k on next powers before after whole put is start within done =
+    let left : List Bool = drop (k - from) needs in
+    let first : on ≡ unwrap_or (slice_get left zero) false = is ∙ sym (need_left (k - from) needs) in
+    let place : k + 1 ≡ suc k = omega arith in
+    let many : to - k ≡ suc (to - (k + 1)) = omega (arith, within) in
+    let so_far : k + 1 - from ≡ suc (k - from) = omega (arith, start) in
+    let later : drop (k + 1 - from) needs ≡ drop (suc zero) left = ap (λ (n : ℕ). drop n needs) so_far ∙ sym (later_left (k - from) needs) in
+    ap (λ (n : ℕ). with_needs_in n (to - (k + 1)) (drop (k + 1 - from) needs) next) place
+    ∙ (ap (λ (ns : List Bool). with_needs_in (suc k) (to - (k + 1)) ns next) later
+    ∙ (ap (with_needs_in (suc k) (to - (k + 1)) (drop (suc zero) left)) put.put
+    ∙ (set_at k (to - (k + 1)) left cs put.child on put.here first
+    ∙ (ap (λ (n : ℕ). with_needs_in k n left cs) (sym many) ∙ done))))
+
+none_in : (place : ℕ) (needs : List Bool) (cs : List Child) → with_needs_in place zero needs cs ≡ cs
+none_in place needs [] = refl
+none_in zero needs (c ∷ cs) = refl
+none_in (suc place) needs (c ∷ cs) = ap (λ later. c ∷ later) (none_in place needs cs)
+
+-- past the last place the children are done
+pub put_end : (needs left : List Bool) (cs : List Child) (to k : ℕ) (whole : List Child) → to ≤ k
+    → with_needs_in k (to - k) left cs ≡ whole → cs ≡ whole
+put_end needs left cs to k whole end done =
+    let none : to - k ≡ 0 = omega (arith, end) in
+    sym (ap (λ (n : ℕ). with_needs_in k n left cs) none ∙ none_in k left cs) ∙ done
+
+all_in : (needs : List Bool) (cs : List Child) → with_needs_in zero (length cs) needs cs ≡ with_needs needs cs
+all_in needs [] = refl
+all_in [] (c ∷ cs) = ap (λ later. child c.node c.parent false ∷ later) (all_in [] cs)
+all_in (need ∷ needs) (c ∷ cs) = ap (λ later. child c.node c.parent need ∷ later) (all_in needs cs)
+
+-- the first needs were put, and then the later ones
+pub both_put : (first later : List Bool) (cs : List Child) (n m : ℕ) → n ≡ min (length first) (length cs) → m ≡ length cs - n
+    → with_needs_in n m later (with_needs_in zero n first cs) ≡ with_needs (first ++ later) cs
+both_put first later [] n m is rest = refl
+both_put [] later (c ∷ cs) zero m is rest =
+    let all : m ≡ length (c ∷ cs) = omega (arith, rest) in
+    ap (λ (k : ℕ). with_needs_in zero k later (c ∷ cs)) all ∙ all_in later (c ∷ cs)
+both_put [] later (c ∷ cs) (suc n) m is rest = absurd (omega (arith, is))
+both_put (need ∷ first) later (c ∷ cs) zero m is rest = absurd (omega (arith, is))
+both_put (need ∷ first) later (c ∷ cs) (suc n) m is rest =
+    ap (λ left. child c.node c.parent need ∷ left) (both_put first later cs n m (omega (arith, is)) (omega (arith, rest)))
 
 pub put_len : (cs : List Child) (k : ℕ) (on : Bool) (next : List Child) (powers : List PowerDef) (before after : ℕ)
     → WasPut k on cs next powers before after → length next ≡ length cs

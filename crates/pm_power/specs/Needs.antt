@@ -33,6 +33,15 @@ with_needs needs [] = []
 with_needs [] (c ∷ later) = child c.node c.parent false ∷ with_needs [] later
 with_needs (need ∷ needs) (c ∷ later) = child c.node c.parent need ∷ with_needs needs later
 
+-- the children where so many of them, from this place on, have these needs, in their order; those of them past the last need
+-- don't need their parents
+abbrev pub with_needs_in : ℕ → ℕ → List Bool → List Child → List Child
+with_needs_in place count needs [] = []
+with_needs_in (suc place) count needs (c ∷ later) = c ∷ with_needs_in place count needs later
+with_needs_in zero zero needs (c ∷ later) = c ∷ later
+with_needs_in zero (suc count) [] (c ∷ later) = child c.node c.parent false ∷ with_needs_in zero count [] later
+with_needs_in zero (suc count) (need ∷ needs) (c ∷ later) = child c.node c.parent need ∷ with_needs_in zero count needs later
+
 -- the children where the one at this place has this need; past the last one nothing changes
 abbrev pub with_need_at : ℕ → Bool → List Child → List Child
 with_need_at place on [] = []

@@ -1,10 +1,10 @@
 //! The processors and slaves below the power nodes, and whether they need them.
 
-ghost use Rattle.std.specs.Prelude.{◌≡◌, ◌<◌, ◌++◌, ◌∷◌, [], ◌==◌, IfOk, Some, false, length, map, find, slice_get, unwrap_or};
+ghost use Rattle.std.specs.Prelude.{◌≡◌, ◌<◌, ◌++◌, ◌∷◌, [], ◌==◌, IfOk, Some, false, length, map, find, slice_get};
 ghost use Rattle.std.specs.Option.{option_map};
 ghost use Rattle.pm_power.specs.Needs.{child, child_need, children_of};
 
-use pm_base::{NoMemory, NodeId, at_or};
+use pm_base::{NoMemory, NodeId};
 use pm_topology::{ProcDef, SlaveDef, Topology};
 use std::alloc::Global;
 
@@ -69,18 +69,6 @@ pub(crate) fn child_at(children: &[Child], k: usize) -> Child
     ensures { slice_get children.now k ≡ Some result }
 {
     children[k]
-}
-
-/// The need of the child at a place, where the needs of all children are first these and then those.
-/// Children past the last need don't need their power node.
-pub(crate) fn need_at(first: &[bool], later: &[bool], place: usize) -> bool
-    ensures { result ≡ unwrap_or (slice_get (first.now ++ later.now) place) false }
-{
-    if place < first.len() {
-        first[place]
-    } else {
-        at_or(later, place - first.len(), false)
-    }
 }
 
 /// Whether the child with this number needs its power node.

@@ -1,13 +1,13 @@
 //! The power nodes of a chip, and which of them are up.
 
-ghost use Rattle.std.specs.Prelude.{replicate, length, ◌≡◌, ◌+◌, ◌<◌, ◌≤◌, ◌^◌, ◌⊎◌, ◌↔◌, ◌++◌, IfOk, IsTrue, None, false, map, true};
+ghost use Rattle.std.specs.Prelude.{replicate, length, ◌≡◌, ◌+◌, ◌-◌, ◌<◌, ◌≤◌, ◌^◌, ◌⊎◌, ◌↔◌, ◌++◌, IfOk, IsTrue, None, false, map, true};
 ghost use Rattle.pm_topology.specs.Places.{power_place};
 ghost use Rattle.pm_topology.specs.WellFormed.{IsWellFormed};
 ghost use Rattle.pm_power.specs.Forest.{AreAfterParents, ChildNeeds, IsHeld, PowerNeeds, is_up, ups};
-ghost use Rattle.pm_power.specs.Needs.{does_need, needs_of, power_need, set_child, set_need, with_need_at, with_needs};
+ghost use Rattle.pm_power.specs.Needs.{does_need, needs_of, power_need, set_child, set_need, with_need_at, with_needs, with_needs_in};
 ghost use Rattle.pm_power.specs.Uses.{AreSettledFrom, IsForest, levels_above};
 
-use crate::child::{self, Child, child_at, need_at};
+use crate::child::{self, Child, child_at};
 use crate::climb::put_need;
 use crate::settle::settle;
 use pm_base::{List, NoMemory, NodeId, Steps, at_or};
@@ -225,59 +225,51 @@ fn set_needs<L: Ledger>(
     }
 }
 
-/// Sets the needs of all children, in their order: first these, and then those.
+/// Sets the needs of the children from one place up to another, in their order. Those past the last need don't need
+/// their power node.
 fn put_needs<L: Ledger>(
     powers: &[PowerDef],
     children: &mut [Child],
     counts: &mut Counts,
     ups: &mut [bool],
-    first: &[bool],
-    later: &[bool],
+    from: usize,
+    to: usize,
+    needs: &[bool],
     steps: &mut Steps<L>,
 )
-    requires { IsForest children.old powers.now counts.old ups.old }
-    ensures children { children.new ≡ with_needs (first.now ++ later.now) children.old }
+    requires forest { IsForest children.old powers.now counts.old ups.old }
+    requires end { to ≤ length children.old }
+    ensures children { children.new ≡ with_needs_in from (to - from) needs.now children.old }
     ensures forest { IsForest children.new powers.now counts.new ups.new }
 {
-    for k in 0..children.len() {
-        put_need(
-            powers,
-            children,
-            counts,
-            ups,
-            k,
-            need_at(first, later, k),
-            steps,
-        );
+    for k in from..to {
+        let need = at_or(needs, k - from, false);
+        put_need(powers, children, counts, ups, k, need, steps);
     }
 }
 
-/// The same with a counter that is thrown away.
+/// Sets the needs of the slaves, which come first, and of the processors, with a counter that is thrown away.
 fn put_needs_uncounted<L: Ledger>(
     powers: &[PowerDef],
     children: &mut [Child],
     counts: &mut Counts,
     ups: &mut [bool],
-    first: &[bool],
-    later: &[bool],
+    slaves: &[bool],
+    procs: &[bool],
     blank: Blank,
 )
     requires forest { IsForest children.old powers.now counts.old ups.old }
     requires name { blank.name ≡ L.name }
     requires parts { blank.parts ≡ L.parts }
     requires some { 0 < blank.parts }
-    ensures children { children.new ≡ with_needs (first.now ++ later.now) children.old }
+    ensures children { children.new ≡ with_needs (slaves.now ++ procs.now) children.old }
     ensures forest { IsForest children.new powers.now counts.new ups.new }
 {
-    put_needs(
-        powers,
-        children,
-        counts,
-        ups,
-        first,
-        later,
-        &mut Steps::<L>::new(blank),
-    );
+    let mut steps = Steps::<L>::new(blank);
+    let end = children.len();
+    let first = slaves.len().min(end);
+    put_needs(powers, children, counts, ups, 0, first, slaves, &mut steps);
+    put_needs(powers, children, counts, ups, first, end, procs, &mut steps);
 }
 
 /// Sets the need of the child at a place, with a counter that is thrown away.
