@@ -272,6 +272,12 @@ pub record Finds (book : State) (downs : List Bool) (caches : Caches) (moved_bef
   }
   pub few : length notices_after.items ≤ notice_count (length caches.values)
 
+-- of what is kept, the units that rest don't start, and nothing happened to them, by a book
+abbrev pub HaveSettled : State → List Bool → Caches → Type 0
+HaveSettled book downs caches =
+    AreSettled (value_by book.fixed book.now.core) (freed_by caches.used.items book.now.core.rows) downs
+    book.now.core.procs caches.kinds.awake caches.kinds.items caches.values
+
 -- the same of what is kept, by the processors and the power nodes of a book
 abbrev pub OthersStay : State → List Bool → Caches → Type 0
 OthersStay book downs caches =

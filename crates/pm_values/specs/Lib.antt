@@ -1,5 +1,6 @@
 pub mod Along
 pub mod Caches
+pub mod Found
 pub mod Kinds
 pub mod Notifications
 pub mod Starts

@@ -5,9 +5,10 @@ ghost use Rattle.pm_topology.specs.Units.{units_of};
 ghost use Rattle.pm_topology.specs.WellFormed.{IsWellFormed};
 ghost use Rattle.pm_power.specs.Needs.{needs_of};
 ghost use Rattle.pm_topology.specs.UnitMap.{all_at};
-ghost use Rattle.pm_values.specs.Caches.{AreChosen, AreKept, AreSettled, Finds, HasPlaces, HasRoom, IsChosen, IsWritten, freed_by, kind_of_unit, value_by, value_kept};
+ghost use Rattle.pm_values.specs.Caches.{AreChosen, AreKept, Finds, HasPlaces, HasRoom, HaveSettled, IsChosen, IsWritten, kind_of_unit, value_kept};
 
 use crate::along::Along;
+use crate::found::Found;
 use crate::kinds::Kinds;
 use crate::moves::log_units;
 use crate::needs::{choose, log_runs};
@@ -153,9 +154,7 @@ impl Caches {
     )
         requires room { HasRoom tables.now.fixed.topology self.old moved.old starts.old notices.old }
         requires chosen { AreChosen tables.now self.old }
-        requires settled { AreSettled (value_by tables.now.fixed tables.now.now.core)
-            (freed_by self.old.used.items tables.now.now.core.rows) along.now.downs tables.now.now.core.procs
-            self.old.kinds.awake self.old.kinds.items self.old.values }
+        requires settled { HaveSettled tables.now along.now.downs self.old }
         ensures kept { AreKept tables.now self.new }
         ensures found { Finds tables.now along.now.downs self.old moved.old moved.new starts.old starts.new
             notices.old notices.new }
@@ -175,25 +174,19 @@ impl Caches {
     )
         requires room { HasRoom tables.now.fixed.topology self.old moved.old starts.old notices.old }
         requires chosen { AreChosen tables.now self.old }
-        requires settled { AreSettled (value_by tables.now.fixed tables.now.now.core)
-            (freed_by self.old.used.items tables.now.now.core.rows) along.now.downs tables.now.now.core.procs
-            self.old.kinds.awake self.old.kinds.items self.old.values }
+        requires settled { HaveSettled tables.now along.now.downs self.old }
         ensures written { IsWritten tables.now self.old self.new }
         ensures found { Finds tables.now along.now.downs self.old moved.old moved.new starts.old starts.new
             notices.old notices.new }
     {
         units_stand_in_order();
         kinds_are_exact();
-        let ups = self.power.ups();
         notices.clear();
+        let found = Found::of(tables, along, &self.states, self.power.ups(), &self.used);
         log_units(
-            tables,
-            along,
+            &found,
             self.kinds.as_slice(),
             self.kinds.awake(),
-            &self.states,
-            ups,
-            &self.used,
             &mut self.values,
             moved,
             starts,

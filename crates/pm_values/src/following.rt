@@ -1,11 +1,12 @@
 //! What is kept of the values follows a step by what it may have touched.
 
-ghost use Rattle.std.specs.Prelude.{◌≡◌, ℕ, ◌<◌, ◌≤◌, ◌++◌, ◌⊎◌, Some, true, false, length, slice_get};
+ghost use Rattle.std.specs.Prelude.{◌≡◌, ℕ, ◌<◌, ◌≤◌, ◌⊎◌, Some, true, false, length, slice_get};
 ghost use Rattle.pm_base.specs.declared.names.Unit.TheVariants.{Node};
 ghost use Rattle.pm_topology.specs.declared.places.Kind.TheVariants.{Slave};
 ghost use Rattle.pm_state.specs.Values.{chosen, state_at, value};
 ghost use Rattle.pm_values.specs.declared.caches.UnitKind.TheVariants.{Entry};
 ghost use Rattle.pm_values.specs.Caches.{AreChosen, AreKept, Finds, HasPlaces, HasRoom, IsChosen, OthersStay, freed_by, moved_at, noticed_at, renewed, use_of, value_kept};
+ghost use Rattle.pm_values.specs.Found.{with_more};
 ghost use Rattle.pm_values.specs.Kinds.{RestLess, rests_at};
 ghost use Rattle.pm_values.specs.Touches.{IsBefore, IsLogged, IsOfModes, IsOfRows, IsTouched, is_among, rests, turned};
 
@@ -197,10 +198,9 @@ impl Caches {
         requires notices { 2 ≤ notices.old.room }
         requires state { slice_get self.old.states.items s ≡ Some (value (Node node) tables.now) }
         ensures caches { IsLogged s node tables.now self.old self.new }
-        ensures moved { moved.new ≡ record moved.old {
-          items = moved.old.items
-              ++ moved_at (value (Node node) tables.now) (Some (Node node, value_kept (Node node) self.old.values));
-        } }
+        ensures moved { moved.new ≡ with_more
+            (moved_at (value (Node node) tables.now) (Some (Node node, value_kept (Node node) self.old.values)))
+            moved.old }
         ensures notices { notices.new ≡ record notices.old {
           items = noticed_at (value (Node node) tables.now)
               (freed_by self.old.used.items tables.now.now.core.rows (Entry (Slave s)))

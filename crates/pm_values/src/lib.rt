@@ -6,6 +6,7 @@ mod along;
 mod caches;
 mod choice;
 mod following;
+mod found;
 mod kinds;
 mod laws;
 mod marks;

@@ -1,76 +1,49 @@
 //! Which units a step moves, and what happens to them.
 
-ghost use Rattle.std.specs.Prelude.{◌≡◌, ◌+◌, ◌<◌, ◌≤◌, ◌++◌, length, slice_get};
+ghost use Rattle.std.specs.Prelude.{◌≡◌, ◌+◌, ◌<◌, ◌≤◌, length, slice_get};
 ghost use Rattle.pm_topology.specs.UnitMap.{with_value_at};
-ghost use Rattle.pm_values.specs.Caches.{AreSettled, freed_by, is_settled, kind_value, moved_at, moved_by, noticed_at, noticed_by, revalued, started_at, starts_by, unit_value};
+ghost use Rattle.pm_values.specs.Caches.{is_settled, kind_value, moved_at, noticed_at, revalued};
+ghost use Rattle.pm_values.specs.Found.{RestAsFound, freed_found, moves_found, notices_found, start_found, starts_found, value_found, with_more};
 ghost use Rattle.pm_values.specs.Notifications.{notice_count};
-ghost use Rattle.pm_state.specs.Values.{line_at};
 
-use crate::along::Along;
 use crate::caches::UnitKind;
+use crate::found::Found;
 use crate::marks::Marks;
-use crate::notifications::{freed, log_notice};
+use crate::notifications::log_notice;
 use crate::starts::{Start, log_start};
 use pm_base::{BoundedList, Unit, at_or};
 use pm_notify::Waiting;
-use pm_procs::{Proc, Procs, is_awake};
-use pm_resets::Resets;
-use pm_rows::Rows;
-use pm_state::Tables;
+use pm_procs::{Procs, is_awake};
 use pm_topology::{Kind, UnitMap};
 
 /// Writes the value of each unit by its kind, puts those units into `moved` whose value isn't the one before, the
 /// processors that are active now and were down by what is kept along the step into `starts`, and what happened to each
 /// unit into `notices`.
 pub(crate) fn log_units(
-    tables: &Tables,
-    along: &Along,
+    found: &Found,
     kinds: &[UnitKind],
     awake: &Marks,
-    states: &[u32],
-    ups: &[bool],
-    used: &[bool],
     values: &mut UnitMap<u32>,
     moved: &mut BoundedList<Unit>,
     starts: &mut BoundedList<Start>,
     notices: &mut BoundedList<Waiting>,
 )
-    requires settled { AreSettled (unit_value states.now tables.now.now.core.procs ups.now tables.now.now.core.lines)
-        (freed_by used.now tables.now.now.core.rows) along.now.downs tables.now.now.core.procs awake.now kinds.now
-        values.old }
+    requires settled { RestAsFound found.now awake.now kinds.now values.old }
     requires marks { length awake.now ≡ length kinds.now }
     requires places { length kinds.now ≡ length values.old }
     requires room { length moved.old.items + length values.old ≤ moved.old.room }
-    requires starts { length starts.old.items
-        + length (starts_by along.now.downs tables.now.now.core.procs kinds.now values.old) ≤ starts.old.room }
+    requires starts { length starts.old.items + length (starts_found found.now kinds.now values.old)
+        ≤ starts.old.room }
     requires notices { length notices.old.items + notice_count (length values.old) ≤ notices.old.room }
-    ensures values { values.new
-        ≡ revalued (unit_value states.now tables.now.now.core.procs ups.now tables.now.now.core.lines)
-        kinds.now values.old }
-    ensures moved { moved.new ≡ record moved.old {
-      items = moved.old.items
-          ++ moved_by (unit_value states.now tables.now.now.core.procs ups.now tables.now.now.core.lines)
-          kinds.now values.old;
-    } }
-    ensures starts { starts.new ≡ record starts.old {
-      items = starts.old.items ++ starts_by along.now.downs tables.now.now.core.procs kinds.now values.old;
-    } }
-    ensures notices { notices.new ≡ record notices.old {
-      items = notices.old.items
-          ++ noticed_by (unit_value states.now tables.now.now.core.procs ups.now tables.now.now.core.lines)
-          (freed_by used.now tables.now.now.core.rows) kinds.now values.old;
-    } }
+    ensures values { values.new ≡ revalued (value_found found.now) kinds.now values.old }
+    ensures moved { moved.new ≡ with_more (moves_found found.now kinds.now values.old) moved.old }
+    ensures starts { starts.new ≡ with_more (starts_found found.now kinds.now values.old) starts.old }
+    ensures notices { notices.new ≡ with_more (notices_found found.now kinds.now values.old) notices.old }
     ensures few { length notices.new.items ≤ length notices.old.items + notice_count (length values.old) }
 {
-    let procs = tables.procs();
-    let resets = tables.resets();
-    let rows = tables.rows();
     let mut k = 0;
     while k < kinds.len() {
-        log_kind(
-            k, kinds[k], along, states, procs, ups, resets, used, rows, values, moved, starts,
-            notices,
-        );
+        log_kind(k, kinds[k], found, values, moved, starts, notices);
         k = awake.past(k);
     }
 }
@@ -79,42 +52,34 @@ pub(crate) fn log_units(
 fn log_kind(
     k: usize,
     kind: UnitKind,
-    along: &Along,
-    states: &[u32],
-    procs: &Procs,
-    ups: &[bool],
-    resets: &Resets,
-    used: &[bool],
-    rows: &Rows,
+    found: &Found,
     values: &mut UnitMap<u32>,
     moved: &mut BoundedList<Unit>,
     starts: &mut BoundedList<Start>,
     notices: &mut BoundedList<Waiting>,
 )
     requires room { length moved.old.items < moved.old.room }
-    requires starts { length starts.old.items
-        + length (started_at along.now.downs procs.now.procs kind (slice_get values.old k)) ≤ starts.old.room }
+    requires starts { length starts.old.items + length (start_found found.now kind (slice_get values.old k))
+        ≤ starts.old.room }
     requires notices { length notices.old.items + 2 ≤ notices.old.room }
-    ensures values { values.new
-        ≡ with_value_at k (unit_value states.now procs.now.procs ups.now resets.now kind) values.old }
-    ensures moved { moved.new ≡ record moved.old {
-      items = moved.old.items
-          ++ moved_at (unit_value states.now procs.now.procs ups.now resets.now kind) (slice_get values.old k);
-    } }
-    ensures starts { starts.new ≡ record starts.old {
-      items = starts.old.items ++ started_at along.now.downs procs.now.procs kind (slice_get values.old k);
-    } }
-    ensures notices { notices.new ≡ record notices.old {
-      items = notices.old.items
-          ++ noticed_at (unit_value states.now procs.now.procs ups.now resets.now kind)
-          (freed_by used.now rows.now kind) (slice_get values.old k);
-    } }
+    ensures values { values.new ≡ with_value_at k (value_found found.now kind) values.old }
+    ensures moved { moved.new
+        ≡ with_more (moved_at (value_found found.now kind) (slice_get values.old k)) moved.old }
+    ensures starts { starts.new ≡ with_more (start_found found.now kind (slice_get values.old k)) starts.old }
+    ensures notices { notices.new
+        ≡ with_more (noticed_at (value_found found.now kind) (freed_found found.now kind) (slice_get values.old k))
+        notices.old }
     ensures few { length notices.new.items ≤ length notices.old.items + 2 }
 {
-    log_start(along, kind, procs, k, values, starts);
-    let value = unit_value(kind, states, procs, ups, resets);
-    let freed = freed(kind, used, rows);
-    log_unit(k, value, freed, values, moved, notices);
+    log_start(found, kind, k, values, starts);
+    log_unit(
+        k,
+        found.value(kind),
+        found.is_freed(kind),
+        values,
+        moved,
+        notices,
+    );
 }
 
 /// Writes the value of the unit at a place, puts the unit into `moved` if that isn't the one before, and what happened
@@ -130,10 +95,8 @@ fn log_unit(
     requires room { length moved.old.items < moved.old.room }
     requires notices { length notices.old.items + 2 ≤ notices.old.room }
     ensures values { values.new ≡ with_value_at k value values.old }
-    ensures moved { moved.new
-        ≡ record moved.old { items = moved.old.items ++ moved_at value (slice_get values.old k) } }
-    ensures notices { notices.new
-        ≡ record notices.old { items = notices.old.items ++ noticed_at value freed (slice_get values.old k) } }
+    ensures moved { moved.new ≡ with_more (moved_at value (slice_get values.old k)) moved.old }
+    ensures notices { notices.new ≡ with_more (noticed_at value freed (slice_get values.old k)) notices.old }
     ensures few { length notices.new.items ≤ length notices.old.items + 2 }
 {
     let entry = values.entry(k);
@@ -157,10 +120,8 @@ fn log_change(
     requires room { length moved.old.items < moved.old.room }
     requires notices { length notices.old.items + 2 ≤ notices.old.room }
     ensures values { values.new ≡ with_value_at k value values.old }
-    ensures moved { moved.new
-        ≡ record moved.old { items = moved.old.items ++ moved_at value (slice_get values.old k) } }
-    ensures notices { notices.new
-        ≡ record notices.old { items = notices.old.items ++ noticed_at value freed (slice_get values.old k) } }
+    ensures moved { moved.new ≡ with_more (moved_at value (slice_get values.old k)) moved.old }
+    ensures notices { notices.new ≡ with_more (noticed_at value freed (slice_get values.old k)) notices.old }
     ensures few { length notices.new.items ≤ length notices.old.items + 2 }
 {
     log_notice(entry, value, freed, notices);
@@ -181,37 +142,12 @@ pub(crate) fn is_settled(entry: Option<(Unit, u32)>, value: u32, freed: bool) ->
 /// Puts the unit of an entry into `moved` if this value isn't the one before.
 fn log_move(entry: Option<(Unit, u32)>, value: u32, moved: &mut BoundedList<Unit>)
     requires { length moved.old.items < moved.old.room }
-    ensures { moved.new ≡ record moved.old { items = moved.old.items ++ moved_at value entry } }
+    ensures { moved.new ≡ with_more (moved_at value entry) moved.old }
 {
     if let Some((unit, before)) = entry {
         if before != value {
             moved.push(unit);
         }
-    }
-}
-
-/// The value of a unit of this kind.
-pub(crate) fn unit_value(
-    kind: UnitKind,
-    states: &[u32],
-    procs: &Procs,
-    ups: &[bool],
-    resets: &Resets,
-) -> u32
-    ensures { result ≡ unit_value states.now procs.now.procs ups.now resets.now kind }
-{
-    match kind {
-        UnitKind::Entry(kind) => kind_value(kind, states, procs, ups),
-        UnitKind::Reset(place) => line_at(place, resets),
-    }
-}
-
-fn line_at(place: Option<usize>, resets: &Resets) -> u32
-    ensures { result ≡ line_at place resets.now }
-{
-    match place {
-        Some(place) => resets.value(place),
-        None => 0,
     }
 }
 

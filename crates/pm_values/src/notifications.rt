@@ -1,7 +1,8 @@
 //! What happens to nodes in a step: which change, and which have no users any more.
 
-ghost use Rattle.std.specs.Prelude.{◌≡◌, ◌+◌, ◌<◌, ◌≤◌, ◌++◌, false, length, slice_get, slice_set};
+ghost use Rattle.std.specs.Prelude.{◌≡◌, ◌+◌, ◌<◌, ◌≤◌, false, length, slice_get, slice_set};
 ghost use Rattle.pm_values.specs.Caches.{freed_by, noticed_at, renewed, renewed_at, use_of};
+ghost use Rattle.pm_values.specs.Found.{with_more};
 ghost use Rattle.pm_values.specs.Touches.{is_among, turned};
 ghost use Rattle.pm_values.specs.Notifications as spec;
 ghost use Rattle.pm_state.specs.Values.{placed};
@@ -42,7 +43,7 @@ pub(crate) fn log_notice(
     notices: &mut BoundedList<Waiting>,
 )
     requires { length notices.old.items + 2 ≤ notices.old.room }
-    ensures notices { notices.new ≡ record notices.old { items = notices.old.items ++ noticed_at value freed entry } }
+    ensures notices { notices.new ≡ with_more (noticed_at value freed entry) notices.old }
     ensures few { length notices.new.items ≤ length notices.old.items + 2 }
 {
     if let Some((Unit::Node(node), before)) = entry {
@@ -54,7 +55,7 @@ pub(crate) fn log_notice(
 /// Puts a note about a node into `notices`, if that happened to it.
 fn log_if(happened: bool, node: NodeId, note: Note, notices: &mut BoundedList<Waiting>)
     requires { length notices.old.items < notices.old.room }
-    ensures notices { notices.new ≡ record notices.old { items = notices.old.items ++ spec.log_if happened node note } }
+    ensures notices { notices.new ≡ with_more (spec.log_if happened node note) notices.old }
     ensures few { length notices.new.items ≤ length notices.old.items + 1 }
 {
     if happened {

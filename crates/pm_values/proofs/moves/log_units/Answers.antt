@@ -1,21 +1,20 @@
-use Rattle.std.proofs.Common.{◌≡◌, ℕ, Bool, true, ◌+◌, ◌<◌, ◌≤◌, ◌++◌, List, length, take, drop, get_or, slice_get, Some, sym, ◌∙◌, ap, subst, arith}
+use Rattle.std.proofs.Common.{◌≡◌, ℕ, Bool, ◌+◌, ◌<◌, ◌≤◌, ◌++◌, List, length, take, drop, get_or, slice_get, Some, sym, ◌∙◌, ap, subst, arith}
 use Rattle.std.proofs.lemmas.List.{length-append, length-drop}
 use Rattle.std.proofs.lemmas.Option.{slice_get-get_or}
 use Rattle.std.proofs.lemmas.Grind.{drop_more_same}
-use Rattle.pm_rows.specs.Rows.{Rows}
 use Rattle.pm_base.specs.declared.names.Unit.{Unit}
 use Rattle.pm_values.specs.declared.caches.UnitKind.{UnitKind}
 use Rattle.pm_values.specs.declared.caches.UnitKind.TheVariants.{Entry}
 use Rattle.pm_topology.specs.declared.places.Kind.TheVariants.{Proc}
 use Rattle.pm_topology.specs.UnitMap.{with_value_at}
-use Rattle.pm_values.specs.Caches.{freed_by, is_settled, revalued, moved_at, moved_by, noticed_at, noticed_by, started_at, starts_by, unit_value}
+use Rattle.pm_values.specs.Caches.{revalued, moved_at, moved_by, noticed_at, noticed_by, starts_by}
+use Rattle.pm_values.specs.Found.{freed_found, value_found}
 use Rattle.pm_base.specs.BoundedList.{Bounded}
 use Rattle.pm_values.proofs.MovesLemmas.{length-written, length-moved_at, values_step, moves_step, left_written}
 use Rattle.pm_values.proofs.NoticesLaw.{noticed_step}
 use Rattle.pm_values.proofs.StartsLaw.{starts_fit, starts_step}
 use Rattle.pm_values.proofs.UnderWay.{IsUnderWay, passed}
 use Rattle.pm_values.specs.declared.starts.Start.{Start}
-use Rattle.pm_procs.specs.declared.procs.Proc.{Proc as Processor}
 use Rattle.pm_notify.specs.declared.notes.Waiting.{Waiting}
 use Rattle.pm_values.proofs.moves.log_units.Goals as goal
 
@@ -25,12 +24,9 @@ log_kind-requires-clause-starts c =
     let k = c.loop-k.k in
     let kind : UnitKind = get_or kinds k (Entry (Proc 0)) in
     let at : slice_get kinds k ≡ Some kind = slice_get-get_or kinds k (Entry (Proc 0)) c.loop-k-test.true in
-    let procs = c.procs-procs.result.now.procs in
-    let downs = c.args.along.now.downs in
+    let procs = c.args.found.now.procs in
+    let downs = c.args.found.now.downs in
     let all : List Start = starts_by downs procs kinds c.args.values.now in
-    let same : length all ≡ length (starts_by downs c.args.tables.now.now.core.procs kinds c.args.values.now) =
-    ap (λ (ps : List Processor). length (starts_by downs ps kinds c.args.values.now)) c.procs-procs.ensures.procs
-    in
     let both : length (c.args.starts.now.items ++ all) ≡ length c.args.starts.now.items + length all = length-append c.args.starts.now.items all in
     let fits : length (c.args.starts.now.items ++ all) ≤ c.loop-k.starts.room = omega (arith, c.requires.starts, c.loop-k.invariant.free) in
     let within : k < length c.loop-k.values = omega (arith, c.loop-k-test.true, c.loop-k.invariant.places) in
@@ -42,9 +38,9 @@ loop-k-preserved c =
     let kinds = c.args.kinds.now in
     let k = c.loop-k.k in
     let kind : UnitKind = get_or kinds k (Entry (Proc 0)) in
-    let new : UnitKind → ℕ = unit_value c.args.states.now c.procs-procs.result.now.procs c.args.ups.now c.resets-resets.result.now in
+    let new : UnitKind → ℕ = value_found c.args.found.now in
     let at : slice_get kinds k ≡ Some kind = slice_get-get_or kinds k (Entry (Proc 0)) c.loop-k-test.true in
-    let freed : UnitKind → Bool = freed_by c.args.used.now c.rows-rows.result.now in
+    let freed : UnitKind → Bool = freed_found c.args.found.now in
     let written : c.log_kind.new.values ≡ with_value_at k (new kind) c.loop-k.values = c.log_kind.ensures.values in
     let moved : c.log_kind.new.moved.items ≡ c.loop-k.moved.items ++ moved_at (new kind) (slice_get c.loop-k.values k) =
     ap (λ (s : Bounded Unit). s.items) c.log_kind.ensures.moved
@@ -63,8 +59,8 @@ loop-k-preserved c =
     let Values : List (Unit × ℕ) → Type 0 = λ es. take (k + 1) es ++ revalued new (drop (k + 1) kinds) (drop (k + 1) es) ≡ revalued new kinds c.args.values.now in
     let Moved : List (Unit × ℕ) → Type 0 = λ es. c.log_kind.new.moved.items ++ moved_by new (drop (k + 1) kinds) (drop (k + 1) es) ≡ c.args.moved.now.items ++ moved_by new kinds c.args.values.now in
     let Items : List Unit → Type 0 = λ items. items ++ moved_by new (drop (k + 1) kinds) (drop (k + 1) (with_value_at k (new kind) c.loop-k.values)) ≡ c.args.moved.now.items ++ moved_by new kinds c.args.values.now in
-    let procs = c.procs-procs.result.now.procs in
-    let downs = c.args.along.now.downs in
+    let procs = c.args.found.now.procs in
+    let downs = c.args.found.now.downs in
     let started : c.log_kind.new.starts.items ++ starts_by downs procs (drop (k + 1) kinds) (drop (k + 1) c.loop-k.values) ≡ c.args.starts.now.items ++ starts_by downs procs kinds c.args.values.now =
     starts_step downs procs kinds k kind c.loop-k.values c.loop-k.starts.items c.log_kind.new.starts.items _ at within
     (ap (λ (s : Bounded Start). s.items) c.log_kind.ensures.starts) c.loop-k.invariant.started
@@ -87,21 +83,7 @@ loop-k-preserved c =
       noticed = subst Noticed (sym (ap (drop (k + 1)) written ∙ left_written k (new kind) c.loop-k.values)) noticed;
     }
     in
-    let states = c.args.states.now in
-    let ups = c.args.ups.now in
-    let used = c.args.used.now in
-    let core = c.args.tables.now.now.core in
-    let lines = c.resets-resets.result.now in
-    let rows = c.rows-rows.result.now in
     passed new freed downs procs kinds c.args.values.now c.args.moved.now c.args.starts.now c.args.notices.now
     c.log_kind.new.values c.log_kind.new.moved c.log_kind.new.starts c.log_kind.new.notices (k + 1) c.past-k.result (omega (arith, c.past-k.ensures.more)) (omega (arith, c.past-k.ensures.most, c.requires.marks))
-    (λ j kind from to at.
-    let still = c.requires.settled j kind at (c.past-k.ensures.all j (omega (arith, from)) to) in
-    let entry = slice_get c.args.values.now j in (
-      ap (λ (ps : List Processor). started_at downs ps kind entry) c.procs-procs.ensures.procs ∙ still.0,
-      ap (λ (ps : List Processor). is_settled (unit_value states ps ups lines kind) (freed_by used rows kind) entry) c.procs-procs.ensures.procs
-          ∙ (ap (λ (ls : List Bool). is_settled (unit_value states core.procs ups ls kind) (freed_by used rows kind) entry) c.resets-resets.ensures
-          ∙ (ap (λ (rs : Rows). is_settled (unit_value states core.procs ups core.lines kind) (freed_by used rs kind) entry) c.rows-rows.ensures
-          ∙ still.1)),
-    ))
+    (λ j kind from to at. c.requires.settled j kind at (c.past-k.ensures.all j (omega (arith, from)) to))
     one
