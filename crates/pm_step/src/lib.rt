@@ -8,7 +8,7 @@ mod told;
 
 pub use laws::{books_stay_sound, only_one_call_configures};
 pub use step::{
-    advance, begin, begin_after, configures, is_idle, is_quiet, leaves_values, time_of,
-    touched_unless,
+    advance, begin, begin_after, configures, is_idle, is_quiet, keeps_procs, leaves_values,
+    time_of, touched_unless,
 };
 pub use told::tell_event;

@@ -206,7 +206,7 @@ fn is_action(event: &Event) -> bool
 }
 
 /// Whether a call leaves all processors in their modes: it only reads the book, or changes a row of the caller.
-pub(crate) fn keeps_procs(call: &Call) -> bool
+pub fn keeps_procs(call: &Call) -> bool
     ensures { result ≡ keeps_procs call.now }
 {
     only_reads(call) || row_node(call).is_some()
