@@ -187,12 +187,13 @@ class View(Case):
         counts = [len(table) for table in (names.NODES, names.RESETS, names.CALLS, names.CALLBACKS, names.CLOCKS, *names.WORDS.values())]
         self.assertEqual(len(lines), sum(counts))
         self.assertEqual(len(lines), len(set(lines)))
+        unserved = next(number for number, call in names.CALLS.items() if call.arguments is None)
         for line in [
             "node 33 UART_0",
             "node 77 PMU, not in the table of the chip",
             "line 1034 RESET_UART0, not in the table of the chip",
             "call 2 SET_CONFIGURATION: address",
-            "call 19 MMIO_WRITE, not served",
+            f"call {unserved} {names.CALLS[unserved].name}, not served",
             "call 13 REQUEST_NODE: node, capabilities, qos, ack",
             "call 21 INIT_FINALIZE",
             "callback 32 NOTIFY_CB: node, event, operating point",

@@ -22,7 +22,7 @@ static CHECKS: [Case; 33] = [
     (11, 3, [11, 0, 0, 0], Want::Drop),
     // the call: these aren't known, whatever their arguments
     (1, 0, [11, 0, 0, 0], Want::Reply(19, [0, 0, 0])),
-    (7, 19, [33, 1, 0, 3], Want::Reply(19, [0, 0, 0])),
+    (7, 99, [33, 1, 0, 3], Want::Reply(19, [0, 0, 0])),
     // the address: no object is attached there
     (1, 2, [99, 0, 0, 0], Want::Reply(15, [0, 0, 0])),
     // the acknowledge kind, alone and with a bad node
