@@ -14,7 +14,6 @@ use Rattle.pm_topology.specs.declared.places.Kind.TheVariants.{Proc, Slave, Powe
 use Rattle.pm_values.specs.declared.caches.UnitKind.{UnitKind}
 use Rattle.pm_values.specs.declared.caches.UnitKind.TheVariants.{Entry, Reset}
 use Rattle.pm_values.specs.declared.kinds.Other.{Other}
-use Rattle.pm_values.specs.declared.starts.Start.{Start}
 use Rattle.pm_values.specs.Along.{down_logged}
 use Rattle.pm_values.specs.Caches.{HaveStayed, ListedStay, freed_by, has_stayed, is_settled, kind_value, start_if, started_at, unit_value}
 use Rattle.pm_values.specs.Kinds.{AreListed, RestLess, StandsIn, is_slave_or_line, rests_at, woken_at}

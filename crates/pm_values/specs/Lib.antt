@@ -2,6 +2,7 @@ pub mod Along
 pub mod Caches
 pub mod Found
 pub mod Kinds
+pub mod ModeStep
 pub mod Notifications
 pub mod Starts
 pub mod Touches

@@ -5,13 +5,15 @@ ghost use Rattle.pm_base.specs.declared.names.Unit.TheVariants.{Node};
 ghost use Rattle.pm_topology.specs.declared.places.Kind.TheVariants.{Slave};
 ghost use Rattle.pm_state.specs.Values.{chosen, state_at, value};
 ghost use Rattle.pm_values.specs.declared.caches.UnitKind.TheVariants.{Entry};
-ghost use Rattle.pm_values.specs.Caches.{AreChosen, AreKept, Finds, HasPlaces, HasRoom, IsChosen, OthersStay, freed_by, moved_at, noticed_at, renewed, use_of, value_kept};
+ghost use Rattle.pm_values.specs.Caches.{AreChosen, AreKept, Finds, HasPlaces, HasRoom, IsChosen, OthersStay, freed_by, moved_at, noticed_at, use_of, value_kept};
 ghost use Rattle.pm_values.specs.Found.{with_more};
 ghost use Rattle.pm_values.specs.Kinds.{RestLess, rests_at};
-ghost use Rattle.pm_values.specs.Touches.{IsBefore, IsLogged, IsOfModes, IsOfRows, IsTouched, is_among, rests, turned};
+ghost use Rattle.pm_values.specs.ModeStep.{is_turned, renewed_after};
+ghost use Rattle.pm_values.specs.Touches.{IsBefore, IsLogged, IsOfModes, IsOfRows, IsTouched, rests};
 
 use crate::along::Along;
 use crate::caches::{Caches, UnitKind};
+use crate::mode_step::ModeStep;
 use crate::needs::{choose_one, choose_turned, follow_runs, is_as_kept, slave_at, state_of};
 use crate::notifications::{freed, log_notice, log_turned_uses_if, log_use};
 use crate::starts::Start;
@@ -66,38 +68,38 @@ impl Caches {
         ensures found { Finds tables.now along.now.downs self.old moved.old moved.new starts.old starts.new
             notices.old notices.new }
     {
-        let changed = self.choose_turned(tables, along, modes);
+        let step = ModeStep {
+            tables,
+            along,
+            modes,
+        };
+        let changed = self.choose_turned(&step);
         self.wake_changed(tables, along);
         self.log_values(tables, along, moved, starts, notices);
-        log_turned_uses_if(changed, tables, along, modes, &mut self.used);
+        log_turned_uses_if(changed, &step, &mut self.used);
     }
 
     /// Chooses the states of the slaves on which a master has a row whose mode turned, and finds which power nodes are up by
     /// that and by the processors that run. All other units rest, and those of these slaves that are as they are kept. The
     /// answer is whether it changed of one of these slaves that some master uses it.
-    fn choose_turned(&mut self, tables: &Tables, along: &Along, modes: &[Mode]) -> bool
-        requires places { HasPlaces tables.now.fixed.topology self.old }
-        requires of_modes { IsOfModes modes.now tables.now along.now self.old }
-        ensures chosen { IsChosen tables.now self.old self.new }
-        ensures uses { result ≡ false → self.old.used.items
-            ≡ renewed (is_among (turned modes.now along.now.modes) tables.now.now.core.rows.entries)
-            (use_of tables.now.now.core) 0 tables.now.fixed.topology.slaves self.old.used.items }
+    fn choose_turned(&mut self, step: &ModeStep) -> bool
+        requires places { HasPlaces step.now.tables.now.fixed.topology self.old }
+        requires of_modes { IsOfModes step.now.modes.now step.now.tables.now step.now.along.now self.old }
+        ensures chosen { IsChosen step.now.tables.now self.old self.new }
+        ensures uses { result ≡ false → self.old.used.items ≡ renewed_after use_of step.now self.old.used.items }
         ensures rests { (k s : ℕ) → slice_get self.new.kinds.items k ≡ Some (Entry (Slave s))
             → rests_at self.new.kinds.awake k ≡ true
-            → (is_among (turned modes.now along.now.modes) tables.now.now.core.rows.entries s ≡ false)
-            ⊎ (rests s tables.now self.old ≡ true) }
+            → (is_turned step.now s ≡ false) ⊎ (rests s step.now.tables.now self.old ≡ true) }
     {
         let changed = choose_turned(
-            tables,
-            along,
-            modes,
+            step,
             &self.used,
             &mut self.kinds,
             &mut self.states,
             &mut self.needs,
             &mut self.power,
         );
-        follow_runs(tables, &mut self.runs, &mut self.power);
+        follow_runs(step.tables, &mut self.runs, &mut self.power);
         changed
     }
 

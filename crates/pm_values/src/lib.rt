@@ -10,6 +10,7 @@ mod found;
 mod kinds;
 mod laws;
 mod marks;
+mod mode_step;
 mod moves;
 mod needs;
 mod notifications;

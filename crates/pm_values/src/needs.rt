@@ -2,22 +2,23 @@
 
 ghost use Rattle.std.specs.Prelude.{◌≡◌, ◌<◌, ◌⊎◌, Some, ℕ, false, true, length, slice_get, slice_set};
 ghost use Rattle.pm_topology.specs.declared.places.Kind.TheVariants.{Slave};
-ghost use Rattle.pm_values.specs.Caches.{FollowNeeds, FollowRuns, renewed, renewed_at, use_of};
+ghost use Rattle.pm_values.specs.Caches.{FollowNeeds, FollowRuns, renewed_at, use_of};
 ghost use Rattle.pm_values.specs.declared.caches.UnitKind.TheVariants.{Entry};
 ghost use Rattle.pm_values.specs.Kinds.{rests_at};
-ghost use Rattle.pm_values.specs.Touches.{is_among, is_as_kept, turned};
+ghost use Rattle.pm_values.specs.ModeStep.{is_turned, renewed_after};
+ghost use Rattle.pm_values.specs.Touches.{is_as_kept};
 ghost use Rattle.std.specs.Option.{option_copied};
 ghost use Rattle.pm_state.specs.Values as spec;
 ghost use Rattle.pm_state.specs.Values.{state_at, placed, chosen, need_of, run_of};
 
-use crate::along::Along;
 use crate::caches::UnitKind;
 use crate::choice::chosen_state;
 use crate::kinds::Kinds;
+use crate::mode_step::ModeStep;
 use crate::notifications::{changes_use, freed};
-use pm_base::{Mode, at_or};
+use pm_base::at_or;
 use pm_power::Power;
-use pm_procs::{is_awake, same_mode};
+use pm_procs::is_awake;
 use pm_state::Tables;
 use pm_topology::{Kind, SlaveDef, needs_in};
 
@@ -81,48 +82,33 @@ pub(crate) fn choose_one(
 /// then, which follow that. All other units rest, and those of these slaves that are as they are kept. The answer is whether
 /// it changed of one of these slaves that some master uses it, by what is kept of that.
 pub(crate) fn choose_turned(
-    tables: &Tables,
-    along: &Along,
-    modes: &[Mode],
+    step: &ModeStep,
     used: &[bool],
     kinds: &mut Kinds,
     states: &mut [u32],
     needs: &mut [bool],
     power: &mut Power,
 ) -> bool
-    requires states { length states.old ≡ length tables.now.fixed.topology.slaves }
-    requires needs { length needs.old ≡ length tables.now.fixed.topology.slaves }
-    ensures uses { result ≡ false → used.now
-        ≡ renewed (is_among (turned modes.now along.now.modes) tables.now.now.core.rows.entries)
-        (use_of tables.now.now.core) 0 tables.now.fixed.topology.slaves used.now }
+    requires states { length states.old ≡ length step.now.tables.now.fixed.topology.slaves }
+    requires needs { length needs.old ≡ length step.now.tables.now.fixed.topology.slaves }
+    ensures uses { result ≡ false → used.now ≡ renewed_after use_of step.now used.now }
     ensures power { FollowNeeds needs.old needs.new power.old power.new }
-    ensures states { states.new
-        ≡ renewed (is_among (turned modes.now along.now.modes) tables.now.now.core.rows.entries)
-        (chosen tables.now.now.core) 0 tables.now.fixed.topology.slaves states.old }
-    ensures needs { needs.new
-        ≡ renewed (is_among (turned modes.now along.now.modes) tables.now.now.core.rows.entries)
-        (need_of tables.now.now.core) 0 tables.now.fixed.topology.slaves needs.old }
+    ensures states { states.new ≡ renewed_after chosen step.now states.old }
+    ensures needs { needs.new ≡ renewed_after need_of step.now needs.old }
     ensures kinds { kinds.new.items ≡ kinds.old.items }
     ensures rests { (k s : ℕ) → slice_get kinds.old.items k ≡ Some (Entry (Slave s)) → rests_at kinds.new.awake k ≡ true
-        → (is_among (turned modes.now along.now.modes) tables.now.now.core.rows.entries s ≡ false)
-        ⊎ (is_as_kept states.old used.now s tables.now ≡ true) }
+        → (is_turned step.now s ≡ false) ⊎ (is_as_kept states.old used.now s step.now.tables.now ≡ true) }
 {
     kinds.rest();
+    let tables = step.tables;
     let mut changed = false;
     for k in 0..tables.rows().len() {
         let seed = tables.rows().entry(k).seed;
-        let turns = has_turned(along, modes, seed.master);
+        let turns = step.has_turned(seed.master);
         choose_if(tables, turns, seed.slave, used, kinds, states, needs, power);
         changed = changes_use(tables, changed, turns, seed.slave, used);
     }
     changed
-}
-
-/// Whether the mode of a master isn't the one before.
-pub(crate) fn has_turned(along: &Along, modes: &[Mode], m: usize) -> bool
-    ensures { result ≡ turned modes.now along.now.modes m }
-{
-    !same_mode(at_or(modes, m, Mode::Off), along.mode(m))
 }
 
 /// The state of the slave at a place, if it is asked for, and whether it needs its power node then, which follows that. It

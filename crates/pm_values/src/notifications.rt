@@ -1,16 +1,15 @@
 //! What happens to nodes in a step: which change, and which have no users any more.
 
 ghost use Rattle.std.specs.Prelude.{◌≡◌, ◌+◌, ◌<◌, ◌≤◌, false, length, slice_get, slice_set};
-ghost use Rattle.pm_values.specs.Caches.{freed_by, noticed_at, renewed, renewed_at, use_of};
+ghost use Rattle.pm_values.specs.Caches.{freed_by, noticed_at, renewed_at, use_of};
 ghost use Rattle.pm_values.specs.Found.{with_more};
-ghost use Rattle.pm_values.specs.Touches.{is_among, turned};
+ghost use Rattle.pm_values.specs.ModeStep.{renewed_after};
 ghost use Rattle.pm_values.specs.Notifications as spec;
 ghost use Rattle.pm_state.specs.Values.{placed};
 
-use crate::along::Along;
 use crate::caches::UnitKind;
-use crate::needs::has_turned;
-use pm_base::{BoundedList, Mode, NodeId, Unit, at_or};
+use crate::mode_step::ModeStep;
+use pm_base::{BoundedList, NodeId, Unit, at_or};
 use pm_notify::{Note, Waiting};
 use pm_rows::Rows;
 use pm_state::Tables;
@@ -107,34 +106,25 @@ fn changes_use_of(tables: &Tables, s: usize, used: &[bool]) -> bool
 }
 
 /// Writes whether some master uses each slave on which a master has a row whose mode turned, unless that changed of none.
-pub(crate) fn log_turned_uses_if(
-    changed: bool,
-    tables: &Tables,
-    along: &Along,
-    modes: &[Mode],
-    used: &mut [bool],
-)
-    requires places { length used.old ≡ length tables.now.fixed.topology.slaves }
-    requires still { changed ≡ false → used.old
-        ≡ renewed (is_among (turned modes.now along.now.modes) tables.now.now.core.rows.entries)
-        (use_of tables.now.now.core) 0 tables.now.fixed.topology.slaves used.old }
-    ensures { used.new ≡ renewed (is_among (turned modes.now along.now.modes) tables.now.now.core.rows.entries)
-        (use_of tables.now.now.core) 0 tables.now.fixed.topology.slaves used.old }
+pub(crate) fn log_turned_uses_if(changed: bool, step: &ModeStep, used: &mut [bool])
+    requires places { length used.old ≡ length step.now.tables.now.fixed.topology.slaves }
+    requires still { changed ≡ false → used.old ≡ renewed_after use_of step.now used.old }
+    ensures { used.new ≡ renewed_after use_of step.now used.old }
 {
     if changed {
-        log_turned_uses(tables, along, modes, used);
+        log_turned_uses(step, used);
     }
 }
 
 /// Writes whether some master uses each slave on which a master has a row whose mode turned.
-fn log_turned_uses(tables: &Tables, along: &Along, modes: &[Mode], used: &mut [bool])
-    requires { length used.old ≡ length tables.now.fixed.topology.slaves }
-    ensures { used.new ≡ renewed (is_among (turned modes.now along.now.modes) tables.now.now.core.rows.entries)
-        (use_of tables.now.now.core) 0 tables.now.fixed.topology.slaves used.old }
+fn log_turned_uses(step: &ModeStep, used: &mut [bool])
+    requires { length used.old ≡ length step.now.tables.now.fixed.topology.slaves }
+    ensures { used.new ≡ renewed_after use_of step.now used.old }
 {
+    let tables = step.tables;
     for k in 0..tables.rows().len() {
         let seed = tables.rows().entry(k).seed;
-        let turns = has_turned(along, modes, seed.master);
+        let turns = step.has_turned(seed.master);
         log_use_if(tables, turns, seed.slave, used);
     }
 }

@@ -13,8 +13,8 @@ use Rattle.pm_values.proofs.needs.choose_turned.Goals as goal
 
 pub loop-k-init : goal.loop-k-init
 loop-k-init c =
-    let slaves = c.args.tables.now.fixed.topology.slaves in
-    let core = c.args.tables.now.now.core in
+    let slaves = c.args.step.now.tables.now.fixed.topology.slaves in
+    let core = c.args.step.now.tables.now.now.core in
     record {
       states_places = c.requires.states;
       needs_places = c.requires.needs;
@@ -28,12 +28,12 @@ loop-k-init c =
 
 pub loop-k-preserved : goal.loop-k-preserved
 loop-k-preserved c =
-    let slaves = c.args.tables.now.fixed.topology.slaves in
-    let core = c.args.tables.now.now.core in
+    let slaves = c.args.step.now.tables.now.fixed.topology.slaves in
+    let core = c.args.step.now.tables.now.now.core in
     let entries = core.rows.entries in
     let k = c.loop-k.k in
     let entry : RowEntry = c.entry.result in
-    let test : ℕ → Bool = turned c.args.modes.now c.args.along.now.modes in
+    let test : ℕ → Bool = turned c.args.step.now.modes.now c.args.step.now.along.now.modes in
     let at : slice_get entries k ≡ Some entry = ap (λ (rows : Rows). slice_get rows.entries k) (sym c.rows-in-loop-k.ensures) ∙ c.entry.ensures in
     record {
       states_places = c.choose_if.auto.states ∙ c.loop-k.invariant.states_places;
@@ -46,14 +46,14 @@ loop-k-preserved c =
       follow = more_needs c.args.needs.now c.loop-k.needs c.choose_if.new.needs c.args.power.now c.loop-k.power c.choose_if.new.power
           c.loop-k.invariant.follow c.choose_if.ensures.power;
       rests = λ j s there is.
-          right_next (is_as_kept c.args.states.now c.args.used.now s c.args.tables.now ≡ true) test entries k entry c.has_turned-turns.result s at c.has_turned-turns.ensures
+          right_next (is_as_kept c.args.states.now c.args.used.now s c.args.step.now.tables.now ≡ true) test entries k entry c.has_turned-turns.result s at c.has_turned-turns.ensures
           (c.loop-k.invariant.rests j s there (c.choose_if.ensures.others j is))
           (λ so same none.
           let own : slice_get c.loop-k.kinds.items j ≡ Some (Entry (Slave entry.seed.slave)) =
           ap (λ (ks : List UnitKind). slice_get ks j) c.loop-k.invariant.kinds ∙ (there ∙ ap (λ n. Some (Entry (Slave n))) (sym same))
           in
-          let kept : is_as_kept c.loop-k.states c.args.used.now s c.args.tables.now ≡ true =
-          ap (λ n. is_as_kept c.loop-k.states c.args.used.now n c.args.tables.now) (sym same) ∙ c.choose_if.ensures.rests so j own is
+          let kept : is_as_kept c.loop-k.states c.args.used.now s c.args.step.now.tables.now ≡ true =
+          ap (λ n. is_as_kept c.loop-k.states c.args.used.now n c.args.step.now.tables.now) (sym same) ∙ c.choose_if.ensures.rests so j own is
           in
           let item : slice_get c.loop-k.states s ≡ slice_get c.args.states.now s =
           ap (λ (ss : List ℕ). slice_get ss s) c.loop-k.invariant.states

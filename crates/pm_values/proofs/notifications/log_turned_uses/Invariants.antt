@@ -6,6 +6,6 @@ use Rattle.pm_values.proofs.notifications.log_turned_uses.Given as goal
 -- it is written of the slaves of the rows before place k, where the mode of their masters turned
 abbrev pub invariant-loop-k : goal.invariant-loop-k
 invariant-loop-k l = record {
-  places : length l.used ≡ length l.tables.fixed.topology.slaves;
-  used : l.used ≡ renewed (is_among (turned l.modes l.along.modes) (take l.k l.tables.now.core.rows.entries)) (use_of l.tables.now.core) 0 l.tables.fixed.topology.slaves l.fn.used;
+  places : length l.used ≡ length l.step.tables.now.fixed.topology.slaves;
+  used : l.used ≡ renewed (is_among (turned l.step.modes.now l.step.along.now.modes) (take l.k l.step.tables.now.now.core.rows.entries)) (use_of l.step.tables.now.now.core) 0 l.step.tables.now.fixed.topology.slaves l.fn.used;
 }

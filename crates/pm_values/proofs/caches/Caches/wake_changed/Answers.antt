@@ -1,6 +1,5 @@
 use Rattle.std.proofs.Common.{Bool, List, slice_get, refl, ap, sym, ◌∙◌}
 use Rattle.pm_procs.specs.declared.procs.Proc.{Proc as Processor}
-use Rattle.pm_values.specs.declared.caches.UnitKind.{UnitKind}
 use Rattle.pm_values.specs.Caches.{has_stayed}
 use Rattle.pm_values.proofs.caches.Caches.wake_changed.Goals as goal
 

@@ -1,4 +1,4 @@
-use Rattle.std.proofs.Common.{ℕ, List, length, sym, subst, ◌∙◌}
+use Rattle.std.proofs.Common.{List, length, subst, ◌∙◌}
 use Rattle.pm_values.specs.declared.kinds.Other.{Other}
 use Rattle.pm_values.specs.Caches.{ListedStay}
 use Rattle.pm_values.proofs.OthersLaw.{have_stayed}
