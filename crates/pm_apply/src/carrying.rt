@@ -93,7 +93,7 @@ impl Carrying {
     fn start(book: &Book, pulse: Option<LineId>) -> Carrying
         ensures { turns_left book.now.fixed.topology pulse result ≡ turns_of book.now.fixed.topology pulse }
     {
-        let _chip = book.topology();
+        book.stays_sound();
         Carrying {
             place: 0,
             pulsed: false,

@@ -105,6 +105,7 @@ fn next_unit(from: usize, book: &Book, kept: &Kept) -> usize
     ensures idle { (k : ℕ) → from ≤ k → k < result → IsIdleAt book.now.fixed.topology kept.now k }
 {
     units_stand_in_order();
+    book.stays_sound();
     let powers = book.topology().powers.len();
     if from < powers || from - powers >= book.units() {
         return from;
@@ -122,6 +123,7 @@ fn is_visited(k: usize, book: &Book, kept: &Kept) -> bool
     units_stand_in_order();
     kinds_are_exact();
     unit_maps::<KeptValue>();
+    book.stays_sound();
     let t = book.topology();
     let powers = t.powers.len();
     if k >= powers && k - powers < book.units() {

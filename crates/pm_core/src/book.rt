@@ -225,7 +225,6 @@ impl Book {
 
     /// The parts of the chip, which have passed their check.
     pub fn topology(&self) -> &Topology
-        ensures formed { IsWellFormed result.now }
         ensures topology { result.now ≡ self.now.fixed.topology }
     {
         self.tables.topology()
@@ -251,7 +250,7 @@ impl Book {
         ensures fed { IsFed self.now.fixed.topology (λ u. value u self.now) }
     {
         values_meet();
-        let _chip = self.tables.topology();
+        self.tables.stays_well_formed();
     }
 
     /// The number of units.

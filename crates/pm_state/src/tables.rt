@@ -22,7 +22,8 @@ use std::marker::Model;
 /// The object that was loaded, what is attached, which of the objects of the run is in force, the parts of the chip, a
 /// row for each permitted pair of a master and a slave, the processors, the reset lines, whether the book is halted,
 /// and the notes of each master. Beside these stand the objects of the run, what each of them permits, and room for the
-/// seeds of rows that are made anew. A change of it owes nothing to what is kept of the book's values.
+/// seeds of rows that are made anew. The book's values are kept apart from them, and are
+/// brought up to date once they changed.
 #[derive(Drop)]
 pub struct Tables {
     pub(crate) object: Object,
@@ -76,11 +77,18 @@ impl Tables {
         &self.policies.get(self.force).grants
     }
 
+    /// The parts of the chip.
     pub fn topology(&self) -> &Topology
-        ensures formed { IsWellFormed result.now }
         ensures topology { result.now ≡ self.now.fixed.topology }
     {
         self.topology.topology()
+    }
+
+    /// What holds in all tables: their chip has passed its check.
+    pub fn stays_well_formed(&self)
+        ensures { IsWellFormed self.now.fixed.topology }
+    {
+        let _chip = &self.topology;
     }
 
     /// The number of configured masters.

@@ -125,7 +125,7 @@ pub record IsAlone (s : ℕ) (slave : SlaveDef) (book : State) (before : CoreHal
   pub up : is_up (forest book.fixed before) slave.parent ≡ is_up (forest book.fixed book.now.core) slave.parent
 
 -- the same by what was read of the chip and of the power nodes before and after
-pub alone_by : (s : ℕ) (slave : SlaveDef) (book : State) (before : CoreHalf) (t : Topology) (read : List SlaveDef) (old new : Needs) (old_ups new_ups : List Bool) (was now : Bool) → UnitLaws → KindLaws → IsWellFormed t → t ≡ book.fixed.topology → read ≡ t.slaves → Some slave ≡ slice_get read s → ChangesRows s before book.now.core
+pub alone_by : (s : ℕ) (slave : SlaveDef) (book : State) (before : CoreHalf) (t : Topology) (read : List SlaveDef) (old new : Needs) (old_ups new_ups : List Bool) (was now : Bool) → UnitLaws → KindLaws → IsWellFormed book.fixed.topology → t ≡ book.fixed.topology → read ≡ t.slaves → Some slave ≡ slice_get read s → ChangesRows s before book.now.core
     → old ≡ forest book.fixed before → new ≡ forest book.fixed book.now.core → old_ups ≡ ups old → new_ups ≡ ups new
     → was ≡ unwrap_or (slice_get old_ups slave.parent) false → now ≡ unwrap_or (slice_get new_ups slave.parent) false → now ≡ was → IsAlone s slave book before
 alone_by s slave book before t read old new old_ups new_ups was now unit_laws kind_laws formed is read_is found changes old_is new_is old_are new_are was_is now_is same =
@@ -133,7 +133,7 @@ alone_by s slave book before t read old new old_ups new_ups was now unit_laws ki
     record {
       units = unit_laws;
       kinds = kind_laws;
-      formed = subst IsWellFormed is formed;
+      formed = formed;
       there = ap (λ (t : Topology). slice_get t.slaves s) (sym is) ∙ (ap (λ xs. slice_get xs s) (sym read_is) ∙ sym found);
       changes = changes;
       up = ap (λ n. up_in (ups n)) (sym old_is) ∙ (ap up_in (sym old_are) ∙ (sym was_is ∙ (sym same ∙ (now_is ∙ (ap up_in new_are ∙ ap (λ n. up_in (ups n)) new_is)))));

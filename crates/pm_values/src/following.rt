@@ -161,6 +161,7 @@ impl Caches {
     {
         units_stand_in_order();
         kinds_are_exact();
+        tables.stays_well_formed();
         match slave_at(tables.topology().slaves.as_slice(), s) {
             Some(slave) => {
                 let was_up = at_or(self.power.ups(), slave.parent, false);

@@ -34,6 +34,7 @@ pub(crate) fn slave_at(slaves: &[SlaveDef], place: usize) -> Option<&SlaveDef>
 pub(crate) fn state_of(tables: &Tables, place: usize) -> u32
     ensures { result ≡ state_at place (slice_get tables.now.fixed.topology.slaves place) tables.now.now.core }
 {
+    tables.stays_well_formed();
     match slave_at(tables.topology().slaves.as_slice(), place) {
         Some(slave) => chosen_state(slave, tables.rows().wanted(place)),
         None => 0,

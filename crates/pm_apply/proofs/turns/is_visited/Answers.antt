@@ -1,6 +1,5 @@
-use Rattle.std.proofs.Common.{◌≡◌, Some, false, length, sym, ap, subst, ◌∙◌, inl, inr}
+use Rattle.std.proofs.Common.{◌≡◌, Some, false, length, sym, ap, ◌∙◌, inl, inr}
 use Rattle.pm_topology.specs.declared.topology.Topology.{Topology}
-use Rattle.pm_topology.specs.WellFormed.{IsWellFormed}
 use Rattle.pm_apply.specs.declared.turns.Turn.TheVariants.{PowerOn, PowerOff}
 use Rattle.pm_apply.specs.Visits.{power_lags}
 use Rattle.pm_record.proofs.Below.{ChipLaws}
@@ -21,7 +20,7 @@ returns-in-PowerOn c =
     let t = c.args.book.now.fixed.topology in
     let kept = c.args.kept.now in
     let place = c.in-PowerOn.place in
-    let well : IsWellFormed t = subst IsWellFormed c.topology-t.ensures.topology c.topology-t.ensures.formed in
+    let well = c.stays_sound.ensures.formed in
     let lags : power_lags t kept place ≡ false = ap (λ (t : Topology). power_lags t kept place) (sym c.topology-t.ensures.topology) ∙ (sym c.power_lags.ensures ∙ no) in
     elim c.in-PowerOn.is [
       | inl is ↦ record { turn = PowerOn place; here = c.turn_at.ensures ∙ ap Some is; idle = idle_power laws t kept well c.requires.units place lags }

@@ -1,7 +1,6 @@
-use Rattle.std.proofs.Common.{◌≡◌, ◌-◌, length, sym, ap, subst, ◌∙◌, arith}
+use Rattle.std.proofs.Common.{◌≡◌, ◌-◌, length, sym, ap, ◌∙◌, arith}
 use Rattle.std.proofs.lemmas.List.{length-map}
 use Rattle.pm_topology.specs.Units.{units_of}
-use Rattle.pm_topology.specs.WellFormed.{IsWellFormed}
 use Rattle.pm_apply.proofs.TurnsLemmas.{few_turns, length-unit_turns}
 use Rattle.pm_apply.proofs.VisitsLemmas.{idle_at}
 use Rattle.pm_apply.proofs.turns.next_unit.Goals as goal
@@ -16,7 +15,7 @@ overflow_add-result c =
     let t = c.args.book.now.fixed.topology in
     let powers : c.len-powers.result ≡ length t.powers = c.len-powers.ensures ∙ ap (λ t. length t.powers) c.topology.ensures.topology in
     let units : length c.args.kept.now ≡ length (units_of t) = sym (length-map c.args.kept.now (λ e. e.0)) ∙ ap length c.requires in
-    let few = few_turns c.units_stand_in_order.ensures t (subst IsWellFormed c.topology.ensures.topology c.topology.ensures.formed) in
+    let few = few_turns c.units_stand_in_order.ensures t c.stays_sound.ensures.formed in
     omega (arith, powers, units, few, length-unit_turns t, c.next_marked-place.ensures.end)
 
 pub returns-clause-idle : goal.returns-clause-idle

@@ -1,6 +1,5 @@
-use Rattle.std.proofs.Common.{◌≡◌, length, ap, subst, ◌∙◌, arith}
+use Rattle.std.proofs.Common.{◌≡◌, length, ap, ◌∙◌, arith}
 use Rattle.pm_topology.specs.Units.{units_of}
-use Rattle.pm_topology.specs.WellFormed.{IsWellFormed}
 use Rattle.pm_apply.proofs.TurnsLemmas.{few_turns, length-unit_turns}
 use Rattle.pm_apply.proofs.turns.turn_count.Goals as goal
 
@@ -9,7 +8,7 @@ overflow_add-result c =
     let t = c.args.book.now.fixed.topology in
     let powers : c.len-powers.result ≡ length t.powers = c.len-powers.ensures ∙ ap (λ t. length t.powers) c.topology.ensures.topology in
     let units : c.units.result ≡ length (units_of t) = c.units.ensures in
-    let few = few_turns c.units_stand_in_order.ensures t (subst IsWellFormed c.topology.ensures.topology c.topology.ensures.formed) in
+    let few = few_turns c.units_stand_in_order.ensures t c.stays_sound.ensures.formed in
     omega (arith, powers, units, few, length-unit_turns t)
 
 pub overflow_add-result-2 : goal.overflow_add-result-2
@@ -17,7 +16,7 @@ overflow_add-result-2 c =
     let t = c.args.book.now.fixed.topology in
     let powers : c.len-powers.result ≡ length t.powers = c.len-powers.ensures ∙ ap (λ t. length t.powers) c.topology.ensures.topology in
     let units : c.units.result ≡ length (units_of t) = c.units.ensures in
-    let few = few_turns c.units_stand_in_order.ensures t (subst IsWellFormed c.topology.ensures.topology c.topology.ensures.formed) in
+    let few = few_turns c.units_stand_in_order.ensures t c.stays_sound.ensures.formed in
     omega (arith, powers, units, few, length-unit_turns t)
 
 pub returns-clause-count : goal.returns-clause-count

@@ -12,18 +12,18 @@ stands slaves read place slave same is = ap (λ xs. slice_get xs place) (sym sam
 
 pub chosen_state-requires : goal.chosen_state-requires
 chosen_state-requires c =
-    let found = stands c.topology.result.now.slaves c.as_slice.result.now c.args.place c.in-Some.slave.now c.as_slice.ensures c.in-Some.ensures in
-    c.topology.ensures.formed.states c.args.place c.in-Some.slave.now found
+    let t = c.args.tables.now.fixed.topology in
+    let read = c.as_slice.ensures ∙ ap (λ (t : Topology). t.slaves) c.topology.ensures.topology in
+    c.stays_well_formed.ensures.states c.args.place c.in-Some.slave.now
+    (stands t.slaves c.as_slice.result.now c.args.place c.in-Some.slave.now read c.in-Some.ensures)
 
 pub returns-in-Some : goal.returns-in-Some
 returns-in-Some c =
     let book = c.args.tables.now in
     let place = c.args.place in
     let slave = c.in-Some.slave.now in
-    let found = stands c.topology.result.now.slaves c.as_slice.result.now place slave c.as_slice.ensures c.in-Some.ensures in
-    let there : slice_get book.fixed.topology.slaves place ≡ Some slave =
-    ap (λ (t : Topology). slice_get t.slaves place) (sym c.topology.ensures.topology) ∙ found
-    in
+    let read = c.as_slice.ensures ∙ ap (λ (t : Topology). t.slaves) c.topology.ensures.topology in
+    let there = stands book.fixed.topology.slaves c.as_slice.result.now place slave read c.in-Some.ensures in
     c.chosen_state.ensures
     ∙ (ap (λ wanted. state_for wanted slave.states) (c.wanted.ensures ∙ ap (wanted_of place) c.rows.ensures)
     ∙ ap (λ o. state_at place o book.now.core) (sym there))

@@ -35,7 +35,7 @@ log_slave-requires-clause-moved c =
     let rows = c.requires.rows in
     let some : 0 < length c.args.self.now.values = some_values c.args.s c.in-Some.slave.now book rows.before c.args.self.now.values rows.kept.values
     (alone_by c.args.s c.in-Some.slave.now c.args.tables.now c.requires.rows.before c.topology.result.now c.as_slice.result.now c.args.self.now.power c.choose_slave.new.self.power c.ups.result.now c.ups-in-Some.result.now c.at_or-was_up.result c.at_or.result
-    c.units_stand_in_order.ensures c.kinds_are_exact.ensures c.topology.ensures.formed c.topology.ensures.topology c.as_slice.ensures c.in-Some.ensures c.requires.rows.changes c.requires.rows.kept.power c.choose_slave.ensures.power
+    c.units_stand_in_order.ensures c.kinds_are_exact.ensures c.stays_well_formed.ensures c.topology.ensures.topology c.as_slice.ensures c.in-Some.ensures c.requires.rows.changes c.requires.rows.kept.power c.choose_slave.ensures.power
     c.ups.ensures c.ups-in-Some.ensures c.at_or-was_up.ensures c.at_or.ensures (same_from_test c.at_or.result c.at_or-was_up.result c.if-at_or-was_up.true))
     in
     omega (arith, some, c.requires.room.room)
@@ -46,7 +46,7 @@ log_slave-requires-clause-notices c =
     let rows = c.requires.rows in
     let some : 0 < length c.args.self.now.values = some_values c.args.s c.in-Some.slave.now book rows.before c.args.self.now.values rows.kept.values
     (alone_by c.args.s c.in-Some.slave.now c.args.tables.now c.requires.rows.before c.topology.result.now c.as_slice.result.now c.args.self.now.power c.choose_slave.new.self.power c.ups.result.now c.ups-in-Some.result.now c.at_or-was_up.result c.at_or.result
-    c.units_stand_in_order.ensures c.kinds_are_exact.ensures c.topology.ensures.formed c.topology.ensures.topology c.as_slice.ensures c.in-Some.ensures c.requires.rows.changes c.requires.rows.kept.power c.choose_slave.ensures.power
+    c.units_stand_in_order.ensures c.kinds_are_exact.ensures c.stays_well_formed.ensures c.topology.ensures.topology c.as_slice.ensures c.in-Some.ensures c.requires.rows.changes c.requires.rows.kept.power c.choose_slave.ensures.power
     c.ups.ensures c.ups-in-Some.ensures c.at_or-was_up.ensures c.at_or.ensures (same_from_test c.at_or.result c.at_or-was_up.result c.if-at_or-was_up.true))
     in
     omega (arith, some, c.requires.room.few)
@@ -55,7 +55,7 @@ pub log_slave-requires-clause-state : goal.log_slave-requires-clause-state
 log_slave-requires-clause-state c =
     own_state c.args.s c.in-Some.slave.now c.args.tables.now c.requires.rows.before c.choose_slave.new.self.states.items
     (alone_by c.args.s c.in-Some.slave.now c.args.tables.now c.requires.rows.before c.topology.result.now c.as_slice.result.now c.args.self.now.power c.choose_slave.new.self.power c.ups.result.now c.ups-in-Some.result.now c.at_or-was_up.result c.at_or.result
-    c.units_stand_in_order.ensures c.kinds_are_exact.ensures c.topology.ensures.formed c.topology.ensures.topology c.as_slice.ensures c.in-Some.ensures c.requires.rows.changes c.requires.rows.kept.power c.choose_slave.ensures.power
+    c.units_stand_in_order.ensures c.kinds_are_exact.ensures c.stays_well_formed.ensures c.topology.ensures.topology c.as_slice.ensures c.in-Some.ensures c.requires.rows.changes c.requires.rows.kept.power c.choose_slave.ensures.power
     c.ups.ensures c.ups-in-Some.ensures c.at_or-was_up.ensures c.at_or.ensures (same_from_test c.at_or.result c.at_or-was_up.result c.if-at_or-was_up.true))
     c.choose_slave.ensures.states
 
@@ -71,7 +71,7 @@ returns-then-at_or-was_up-clause-kept c =
     let logged = c.log_slave.ensures.caches in
     let chosen_by = c.choose_slave.ensures in
     let alone = alone_by c.args.s c.in-Some.slave.now c.args.tables.now c.requires.rows.before c.topology.result.now c.as_slice.result.now c.args.self.now.power c.choose_slave.new.self.power c.ups.result.now c.ups-in-Some.result.now c.at_or-was_up.result c.at_or.result
-    c.units_stand_in_order.ensures c.kinds_are_exact.ensures c.topology.ensures.formed c.topology.ensures.topology c.as_slice.ensures c.in-Some.ensures c.requires.rows.changes c.requires.rows.kept.power c.choose_slave.ensures.power
+    c.units_stand_in_order.ensures c.kinds_are_exact.ensures c.stays_well_formed.ensures c.topology.ensures.topology c.as_slice.ensures c.in-Some.ensures c.requires.rows.changes c.requires.rows.kept.power c.choose_slave.ensures.power
     c.ups.ensures c.ups-in-Some.ensures c.at_or-was_up.ensures c.at_or.ensures (same_from_test c.at_or.result c.at_or-was_up.result c.if-at_or-was_up.true) in
     record {
       kinds = ap (λ v. v.items) logged.kinds ∙ (chosen_by.kinds ∙ rows.kept.kinds);
@@ -95,7 +95,7 @@ returns-then-at_or-was_up-clause-found c =
     let chosen_by = c.choose_slave.ensures in
     let t : Topology = book.fixed.topology in
     let alone = alone_by c.args.s c.in-Some.slave.now c.args.tables.now c.requires.rows.before c.topology.result.now c.as_slice.result.now c.args.self.now.power c.choose_slave.new.self.power c.ups.result.now c.ups-in-Some.result.now c.at_or-was_up.result c.at_or.result
-    c.units_stand_in_order.ensures c.kinds_are_exact.ensures c.topology.ensures.formed c.topology.ensures.topology c.as_slice.ensures c.in-Some.ensures c.requires.rows.changes c.requires.rows.kept.power c.choose_slave.ensures.power
+    c.units_stand_in_order.ensures c.kinds_are_exact.ensures c.stays_well_formed.ensures c.topology.ensures.topology c.as_slice.ensures c.in-Some.ensures c.requires.rows.changes c.requires.rows.kept.power c.choose_slave.ensures.power
     c.ups.ensures c.ups-in-Some.ensures c.at_or-was_up.ensures c.at_or.ensures (same_from_test c.at_or.result c.at_or-was_up.result c.if-at_or-was_up.true) in
     let was : value_kept unit c.choose_slave.new.self.values ≡ value unit (with_core rows.before book) =
     ap (value_kept unit) chosen_by.values ∙ kept_value c.units_stand_in_order.ensures c.kinds_are_exact.ensures (with_core rows.before book) old unit rows.kept
