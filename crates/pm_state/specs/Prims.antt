@@ -98,6 +98,11 @@ abbrev pub applies : Fixed → List Prim → Now → Now
 applies fixed [] now = now
 applies fixed (prim ∷ prims) now = applies fixed prims (apply fixed prim now)
 
+-- the book once the processor at place p went to a mode, whichever master has it
+abbrev pub with_proc : ℕ → Mode → ℕ → State → State
+with_proc p mode address book =
+    record book { now = record book.now { core = record book.now.core { procs = proc_put p mode address book.now.core.procs } } }
+
 -- the book after these changes: what is fixed stays
 abbrev pub changed : List Prim → State → State
 changed prims book = record book { now = applies book.fixed prims book.now }

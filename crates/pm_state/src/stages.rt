@@ -4,7 +4,7 @@ ghost use Rattle.std.specs.Prelude.{◌≡◌, ◌<◌, ◌∷◌, [], length, r
 ghost use Rattle.pm_base.specs.declared.names.Mode.TheVariants.{Off};
 ghost use Rattle.pm_rows.specs.Modes.{loaded_modes};
 ghost use Rattle.pm_state.specs.Members.{mode_of_master, owner_at, owns, first_own};
-ghost use Rattle.pm_state.specs.Prims.{changed, At_row, Enforce, Halt, Put_proc, Reload, Settle, Put_line};
+ghost use Rattle.pm_state.specs.Prims.{changed, with_proc, At_row, Enforce, Halt, Put_proc, Reload, Settle, Put_line};
 ghost use Rattle.pm_state.specs.Stages.{after_stage, follow_at, followed};
 
 use crate::load::{active_at_load, start};
@@ -65,8 +65,15 @@ impl Tables {
         ensures { self.new ≡ changed (Put_proc m p mode address ∷ []) self.old }
     {
         if self.owns(m, p) {
-            self.procs.set(p, Proc { mode, address }.gone(mode));
+            self.set_proc(p, mode, address);
         }
+    }
+
+    /// The processor at a place goes to a mode, with a resume address, whichever master has it.
+    pub(crate) fn set_proc(&mut self, p: usize, mode: Mode, address: u64)
+        ensures { self.new ≡ with_proc p mode address self.old }
+    {
+        self.procs.set(p, Proc { mode, address }.gone(mode));
     }
 
     /// The rows of the master at a place shift where the mode that they know isn't the one that its

@@ -22,8 +22,8 @@ use std::marker::Model;
 /// The object that was loaded, what is attached, which of the objects of the run is in force, the parts of the chip, a
 /// row for each permitted pair of a master and a slave, the processors, the reset lines, whether the book is halted,
 /// and the notes of each master. Beside these stand the objects of the run, what each of them permits, and room for the
-/// seeds of rows that are made anew. The book's values are kept apart from them, and are
-/// brought up to date once they changed.
+/// seeds of rows that are made anew. The values of the units are kept apart from these tables, and are brought up to
+/// date after they changed.
 #[derive(Drop)]
 pub struct Tables {
     pub(crate) object: Object,

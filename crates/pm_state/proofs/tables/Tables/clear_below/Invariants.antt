@@ -7,6 +7,6 @@ use Rattle.pm_state.proofs.tables.Tables.clear_below.Given as goal
 abbrev pub invariant-loop-s : goal.invariant-loop-s
 invariant-loop-s l = record {
   fixed : l.self.fixed ≡ l.initial.self.fixed;
-  whole : changed (clears_from l.self.fixed l.forced l.s (drop l.s l.initial.self.fixed.topology.slaves)) l.self
-      ≡ changed (clears l.initial.self.fixed l.forced) l.initial.self;
+  whole : changed (clears_from l.self.fixed l.fn.forced l.s (drop l.s l.initial.self.fixed.topology.slaves)) l.self
+      ≡ changed (clears l.initial.self.fixed l.fn.forced) l.initial.self;
 }

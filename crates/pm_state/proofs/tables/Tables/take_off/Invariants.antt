@@ -7,6 +7,6 @@ use Rattle.pm_state.proofs.tables.Tables.take_off.Given as goal
 abbrev pub invariant-loop-p : goal.invariant-loop-p
 invariant-loop-p l = record {
   fixed : l.self.fixed ≡ l.initial.self.fixed;
-  whole : changed (offs_from l.self.fixed l.scope l.p (drop l.p l.initial.self.fixed.topology.procs)) l.self
-      ≡ changed (offs l.initial.self.fixed l.scope) l.initial.self;
+  whole : changed (offs_from l.self.fixed l.fn.scope l.p (drop l.p l.initial.self.fixed.topology.procs)) l.self
+      ≡ changed (offs l.initial.self.fixed l.fn.scope) l.initial.self;
 }
