@@ -95,6 +95,11 @@ module _ {A : Type 0} (new : ℕ → SlaveDef → A) where
   renewed_at_is asked s None items = refl
   renewed_at_is asked s (Some slave) items = refl
 
+  -- one that isn't asked for stays
+  pub renewed_not : (s : ℕ) (slave : Option SlaveDef) (items : List A) → items ≡ renewed_at false new s slave items
+  renewed_not s None items = refl
+  renewed_not s (Some slave) items = refl
+
   -- those that no test asks for are right already
   pub renewed_all : (test : ℕ → Bool) (old : ℕ → SlaveDef → A) → ((s : ℕ) (slave : SlaveDef) → test s ≡ false → old s slave ≡ new s slave)
       → (k : ℕ) (slaves : List SlaveDef) → renewed test new k slaves (placed old k slaves) ≡ placed new k slaves

@@ -105,18 +105,18 @@ pub(crate) fn choose_turned(
     let mut changed = false;
     for k in 0..tables.rows().len() {
         let seed = tables.rows().entry(k).seed;
-        let turns = step.has_turned(seed.master);
-        choose_if(tables, turns, seed.slave, used, kinds, states, needs, power);
-        changed = changes_use(tables, changed, turns, seed.slave, used);
+        if step.has_turned(seed.master) {
+            choose_and_wake(tables, seed.slave, used, kinds, states, needs, power);
+            changed = changes_use(tables, changed, seed.slave, used);
+        }
     }
     changed
 }
 
-/// The state of the slave at a place, if it is asked for, and whether it needs its power node then, which follows that. It
-/// doesn't rest unless it is as it is kept.
-fn choose_if(
+/// Writes the state that is chosen for the slave at a place, and whether it needs its power node then, which follows that.
+/// The slave doesn't rest unless it is as it is kept.
+fn choose_and_wake(
     tables: &Tables,
-    asked: bool,
     s: usize,
     used: &[bool],
     kinds: &mut Kinds,
@@ -127,18 +127,15 @@ fn choose_if(
     requires states { length states.old ≡ length tables.now.fixed.topology.slaves }
     requires needs { length needs.old ≡ length tables.now.fixed.topology.slaves }
     ensures power { FollowNeeds needs.old needs.new power.old power.new }
-    ensures states { states.new ≡ renewed_at asked (chosen tables.now.now.core) s
+    ensures states { states.new ≡ renewed_at true (chosen tables.now.now.core) s
         (slice_get tables.now.fixed.topology.slaves s) states.old }
-    ensures needs { needs.new ≡ renewed_at asked (need_of tables.now.now.core) s
+    ensures needs { needs.new ≡ renewed_at true (need_of tables.now.now.core) s
         (slice_get tables.now.fixed.topology.slaves s) needs.old }
     ensures kinds { kinds.new.items ≡ kinds.old.items }
-    ensures rests { asked ≡ true → (k : ℕ) → slice_get kinds.old.items k ≡ Some (Entry (Slave s))
-        → rests_at kinds.new.awake k ≡ true → is_as_kept states.old used.now s tables.now ≡ true }
+    ensures rests { (k : ℕ) → slice_get kinds.old.items k ≡ Some (Entry (Slave s)) → rests_at kinds.new.awake k ≡ true
+        → is_as_kept states.old used.now s tables.now ≡ true }
     ensures others { (k : ℕ) → rests_at kinds.new.awake k ≡ true → rests_at kinds.old.awake k ≡ true }
 {
-    if !asked {
-        return;
-    }
     let state = state_of(tables, s);
     wake_slave_unless(is_as_kept(tables, s, state, states, used), s, kinds);
     choose_at(tables, s, state, states, needs, power);

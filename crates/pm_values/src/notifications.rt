@@ -1,6 +1,6 @@
 //! What happens to nodes in a step: which change, and which have no users any more.
 
-ghost use Rattle.std.specs.Prelude.{◌≡◌, ◌+◌, ◌<◌, ◌≤◌, false, length, slice_get, slice_set};
+ghost use Rattle.std.specs.Prelude.{◌≡◌, ◌+◌, ◌<◌, ◌≤◌, false, length, slice_get, slice_set, true};
 ghost use Rattle.pm_values.specs.Caches.{freed_by, noticed_at, renewed_at, use_of};
 ghost use Rattle.pm_values.specs.Found.{with_more};
 ghost use Rattle.pm_values.specs.ModeStep.{renewed_after};
@@ -82,20 +82,13 @@ pub(crate) fn log_use(tables: &Tables, s: usize, used: &mut [bool])
     }
 }
 
-/// Whether that was so, or some master uses the slave at a place, if it is asked for, where by what is kept none did, or the
-/// other way round.
-pub(crate) fn changes_use(
-    tables: &Tables,
-    so_far: bool,
-    asked: bool,
-    s: usize,
-    used: &[bool],
-) -> bool
+/// Whether that was so, or some master uses the slave at a place, where by what is kept none did, or the other way round.
+pub(crate) fn changes_use(tables: &Tables, so_far: bool, s: usize, used: &[bool]) -> bool
     ensures before { result ≡ false → so_far ≡ false }
-    ensures here { result ≡ false → renewed_at asked (use_of tables.now.now.core) s
+    ensures here { result ≡ false → renewed_at true (use_of tables.now.now.core) s
         (slice_get tables.now.fixed.topology.slaves s) used.now ≡ used.now }
 {
-    so_far || (asked && changes_use_of(tables, s, used))
+    so_far || changes_use_of(tables, s, used)
 }
 
 /// Whether some master uses the slave at a place, where by what is kept none did, or the other way round.
