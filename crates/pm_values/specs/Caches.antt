@@ -79,9 +79,7 @@ start_if down (Line line) proc = []
 -- the start of an entry's node of this kind, if it is a processor that starts
 abbrev pub start_in : List Bool → List Processor → Kind → Unit × ℕ → List Start
 start_in downs procs (Proc p) e = start_if (down_logged p downs) e.0 (proc_at p procs)
-start_in downs procs (Slave s) e = []
-start_in downs procs (Power w) e = []
-start_in downs procs Unknown e = []
+start_in downs procs _ e = []
 
 -- the start of the unit of an entry
 abbrev pub started_at : List Bool → List Processor → UnitKind → Option (Unit × ℕ) → List Start
@@ -99,9 +97,7 @@ starts_by downs procs (kind ∷ kinds) (e ∷ entries) =
 -- a node of this kind is a slave that was used, by what is kept of each slave
 abbrev pub used_kept : List Bool → Kind → Bool
 used_kept used (Slave s) = unwrap_or (slice_get used s) false
-used_kept used (Proc p) = false
-used_kept used (Power w) = false
-used_kept used Unknown = false
+used_kept used _ = false
 
 -- a unit of this kind was used, and by these rows is used no more
 abbrev pub freed_by : List Bool → Rows → UnitKind → Bool
@@ -130,9 +126,7 @@ abbrev pub has_stayed : List Bool → List Processor → List Bool → UnitKind 
 has_stayed downs procs up (Entry (Proc p)) entry =
     is_settled (kind_value [] procs up (Proc p)) false entry && not (down_logged p downs && same_mode (mode_at p procs) Active)
 has_stayed downs procs up (Entry (Power w)) entry = is_settled (kind_value [] procs up (Power w)) false entry
-has_stayed downs procs up (Entry (Slave s)) entry = false
-has_stayed downs procs up (Entry Unknown) entry = false
-has_stayed downs procs up (Reset place) entry = false
+has_stayed downs procs up _ entry = false
 
 -- of the first n units of a list only those rest to which nothing happened
 abbrev pub ListedStay : List Bool → List Processor → List Bool → List Bool → List Other → ℕ → List (Unit × ℕ) → Type 0

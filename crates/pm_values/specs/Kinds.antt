@@ -1,7 +1,7 @@
 -- What the value of each unit is found by, and the units that rest in a step.
 use Rattle.std.specs.Prelude.{◌≡◌, ◌<◌, ℕ, ◌+◌, ◌*◌, ◌/◌, ◌%◌, ◌^◌, bit_or, Bool, true, false, not, List, length, slice_get, slice_set, unwrap_or, Some}
 use Rattle.std.specs.Int.{bit_at}
-use Rattle.pm_topology.specs.declared.places.Kind.TheVariants.{Proc, Slave, Power, Unknown}
+use Rattle.pm_topology.specs.declared.places.Kind.TheVariants.{Slave}
 use Rattle.pm_values.specs.declared.caches.UnitKind.{UnitKind}
 use Rattle.pm_values.specs.declared.kinds.Other.{Other}
 use Rattle.pm_values.specs.declared.caches.UnitKind.TheVariants.{Entry, Reset}
@@ -33,18 +33,13 @@ pub record AreInWords (units : List Bool) (words : List ℕ) : Type 0 where
 -- a unit of this kind is a slave or a reset line
 abbrev pub is_slave_or_line : UnitKind → Bool
 is_slave_or_line (Entry (Slave s)) = true
-is_slave_or_line (Entry (Proc p)) = false
-is_slave_or_line (Entry (Power w)) = false
-is_slave_or_line (Entry Unknown) = false
 is_slave_or_line (Reset place) = true
+is_slave_or_line _ = false
 
 -- the places of the units of slaves, where this kind stands at place k
 abbrev pub with_home : UnitKind → ℕ → List ℕ → List ℕ
 with_home (Entry (Slave s)) k homes = slice_set homes s k
-with_home (Entry (Proc p)) k homes = homes
-with_home (Entry (Power w)) k homes = homes
-with_home (Entry Unknown) k homes = homes
-with_home (Reset place) k homes = homes
+with_home _ k homes = homes
 
 -- each slave has its unit at one place, and there are so many slaves
 pub record AreApart (slaves : ℕ) (kinds : List UnitKind) : Type 0 where

@@ -7,8 +7,8 @@ ghost use Rattle.pm_values.specs.Turns as turns_spec;
 use pm_base::Mode;
 use pm_procs::{is_awake, same_mode};
 
-/// What becomes of the mode of a master from one book to the next: it becomes asleep or off, it goes on
-/// in place of suspending, or it becomes off.
+/// The changes of the mode of a master from one book to the next: it becomes asleep or off, it goes on in place of
+/// suspending, or it becomes off.
 #[derive(Clone, Copy, Debug, PartialEq, Eq)]
 pub struct Turns {
     pub down: bool,
