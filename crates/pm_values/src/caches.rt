@@ -48,6 +48,7 @@ impl Caches {
         ensures places { IfOk result (HasPlaces tables.now.fixed.topology) }
         ensures zeros { IfOk result (λ caches. caches.values ≡ all_at 0 (units_of tables.now.fixed.topology)) }
     {
+        tables.stays_well_formed();
         let t = tables.topology();
         let found = found_of(alloc, t)?;
         let flags = flags_of(alloc, t.slaves.len(), t.procs.len());

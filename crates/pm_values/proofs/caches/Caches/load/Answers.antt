@@ -1,15 +1,19 @@
-use Rattle.std.proofs.Common.{◌≡◌, ◌∙◌, ℕ, List, length, ap, map, subst}
+use Rattle.std.proofs.Common.{◌≡◌, ◌∙◌, ℕ, List, length, ap, map, subst, sym}
 use Rattle.std.proofs.lemmas.Result.{IfOk-at_ok}
 use Rattle.pm_base.specs.declared.names.Unit.{Unit}
 use Rattle.pm_topology.specs.declared.topology.Topology.{Topology}
 use Rattle.pm_topology.specs.UnitMap.{all_at, units_in}
 use Rattle.pm_topology.specs.Units.{units_of}
+use Rattle.pm_topology.specs.WellFormed.{IsWellFormed}
 use Rattle.pm_power.specs.Forest.{Needs}
 use Rattle.pm_values.specs.declared.caches.Caches.{Caches}
 use Rattle.pm_values.specs.Caches.{HasPlaces, idle}
 use Rattle.pm_values.specs.Kinds.{UnitKinds}
 use Rattle.pm_values.proofs.CachesLaw.{idle_is, zeros_units}
 use Rattle.pm_values.proofs.caches.Caches.load.Goals as goal
+
+pub found_of-found-requires : goal.found_of-found-requires
+found_of-found-requires c = subst IsWellFormed (sym c.topology-t.ensures.topology) c.stays_well_formed.ensures
 
 pub returns-clause-places : goal.returns-clause-places
 returns-clause-places c =
