@@ -1,5 +1,5 @@
--- What is kept of a step until the masters are told of it: their modes before it, what is logged along it, and what
--- there is to tell.
+-- The log of a step for telling the masters of it: their modes before it, the changes of their modes along it, and the
+-- news.
 use Rattle.std.specs.Prelude.{ℕ, ◌<◌, ◌≤◌, ◌≡◌, false, List, length, Option, ◌++◌}
 use Rattle.pm_topology.specs.declared.topology.Topology.{Topology}
 use Rattle.pm_topology.specs.Units.{units_of}

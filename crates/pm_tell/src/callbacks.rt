@@ -48,7 +48,7 @@ fn init_suspend(master: NodeId, asked: &Asked) -> Callback
     }
 }
 
-/// The callback that asks the master at a place, where it is the one that is asked.
+/// The callback that asks the master at a place to suspend, if that is the one that is asked.
 fn asks_to(k: usize, master: NodeId, asks: Option<Asked>) -> Option<Callback>
     ensures { option_to_list result ≡ spec.asks_to k master asks }
 {
@@ -60,7 +60,7 @@ fn asks_to(k: usize, master: NodeId, asks: Option<Asked>) -> Option<Callback>
     }
 }
 
-/// Puts the callback that asks the master at a place into `callbacks`, where it is the one that is asked.
+/// Puts the callback that asks the master at a place to suspend into `callbacks`, if that is the one that is asked.
 fn tell_asked(k: usize, master: NodeId, asks: Option<Asked>, callbacks: &mut BoundedList<Callback>)
     requires { length callbacks.old.items < callbacks.old.room }
     ensures callbacks { callbacks.new
@@ -111,8 +111,8 @@ pub(crate) fn acknowledged_to(k: usize, end: &Ended) -> Option<Waiting>
     }
 }
 
-/// Tells each master what there is to tell, in object order: by callbacks into `callbacks` where it is
-/// active or suspending, and by notes that wait where it is asleep.
+/// Tells each master the news, in object order: one that is active or suspending by callbacks into `callbacks`, and one
+/// that is asleep by notes that wait.
 pub(crate) fn tell_masters(
     tables: &mut Tables,
     caches: &Caches,
