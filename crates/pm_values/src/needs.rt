@@ -198,6 +198,7 @@ pub(crate) fn follow_runs(tables: &Tables, runs: &mut [bool], power: &mut Power)
     ensures runs { runs.new ≡ placed (run_of tables.now.now.core) 0 tables.now.fixed.topology.procs }
     ensures power { FollowRuns (length tables.now.fixed.topology.slaves) runs.old runs.new power.old power.new }
 {
+    tables.stays_well_formed();
     let t = tables.topology();
     for p in 0..t.procs.len() {
         let run = is_awake(tables.procs().mode(p));

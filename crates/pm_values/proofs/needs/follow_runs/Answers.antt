@@ -13,6 +13,16 @@ use Rattle.pm_values.specs.Caches.{FollowRuns}
 use Rattle.pm_values.proofs.FollowLaw.{more_runs, one_run}
 use Rattle.pm_values.proofs.needs.follow_runs.Goals as goal
 
+pub overflow_add-len : goal.overflow_add-len
+overflow_add-len c =
+    let procs : length c.topology-t.result.now.procs ≡ length c.args.tables.now.fixed.topology.procs =
+    ap (λ (t : Topology). length t.procs) c.topology-t.ensures.topology
+    in
+    let slaves : length c.topology-t.result.now.slaves ≡ length c.args.tables.now.fixed.topology.slaves =
+    ap (λ (t : Topology). length t.slaves) c.topology-t.ensures.topology
+    in
+    omega (arith, procs, slaves, c.len-p-end.ensures, c.len.ensures, c.loop-p-test.true, c.stays_well_formed.ensures.few_slaves, c.stays_well_formed.ensures.few_procs)
+
 pub loop-p-preserved : goal.loop-p-preserved
 loop-p-preserved c =
     let procs = c.args.tables.now.fixed.topology.procs in

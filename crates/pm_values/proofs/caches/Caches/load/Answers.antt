@@ -12,8 +12,8 @@ use Rattle.pm_values.specs.Kinds.{UnitKinds}
 use Rattle.pm_values.proofs.CachesLaw.{idle_is, zeros_units}
 use Rattle.pm_values.proofs.caches.Caches.load.Goals as goal
 
-pub found_of-found-requires : goal.found_of-found-requires
-found_of-found-requires c = subst IsWellFormed (sym c.topology-t.ensures.topology) c.stays_well_formed.ensures
+pub found_of-requires : goal.found_of-requires
+found_of-requires c = subst IsWellFormed (sym c.topology-t.ensures.topology) c.stays_well_formed.ensures
 
 pub returns-clause-places : goal.returns-clause-places
 returns-clause-places c =
