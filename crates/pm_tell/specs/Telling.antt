@@ -1,9 +1,10 @@
 -- The log of a step for telling the masters of it: their modes before it, the changes of their modes along it, and the
 -- news.
-use Rattle.std.specs.Prelude.{ℕ, ◌<◌, ◌≤◌, ◌≡◌, false, List, length, Option, ◌++◌}
+use Rattle.std.specs.Prelude.{ℕ, ◌<◌, ◌≤◌, ◌≡◌, false, List, [], length, None, Option, ◌++◌}
 use Rattle.pm_topology.specs.declared.topology.Topology.{Topology}
 use Rattle.pm_topology.specs.Units.{units_of}
 use Rattle.pm_calls.specs.declared.verdict.Say.{Say}
+use Rattle.pm_calls.specs.Verdict.{aborted_by, asked_by}
 use Rattle.pm_tell.specs.declared.telling.Telling.{Telling}
 use Rattle.pm_values.specs.declared.turns.Turns.{Turns}
 use Rattle.pm_values.specs.Along as along
@@ -13,6 +14,7 @@ use Rattle.pm_values.specs.Notifications.{notice_count}
 use Rattle.pm_state.specs.Members.{mode_of_master}
 use Rattle.pm_state.specs.State.{State}
 use Rattle.pm_state.specs.Talk.{Talk, talks}
+use Rattle.pm_tell.specs.Ended.{ended_from}
 use Rattle.pm_tell.specs.Opening.{forgets_from, talk_of}
 use Rattle.pm_base.specs.declared.names.Mode.{Mode}
 use Rattle.pm_notify.specs.MasterNotes.{MasterNotes}
@@ -26,6 +28,20 @@ turns_in telling m = turns_logged m telling.along.turns
 -- the mode of the master at place m before the step
 abbrev pub mode_before : Telling → ℕ → Mode
 mode_before telling = mode_logged telling.modes.items
+
+-- the log with the news of a step: the master that is asked to suspend by a message, and the requests that end in the
+-- book after the stages
+abbrev pub with_news : Option Say → Option ℕ → State → Telling → Telling
+with_news says count after telling = record telling {
+  asks = asked_by says;
+  ended = record telling.ended {
+    items = ended_from (turns_in telling) (aborted_by says) count 0 after.now.talk.pending;
+  };
+}
+
+-- the log with no news but the events of nodes
+abbrev pub without_news : Telling → Telling
+without_news telling = record telling { asks = None; ended = record telling.ended { items = [] } }
 
 -- what there is to tell
 abbrev pub news_in : Telling → News

@@ -1,14 +1,13 @@
 //! The log of a step for telling the masters of it: their modes before it, the changes of their modes along it, and the
 //! news.
 
-ghost use Rattle.std.specs.Prelude.{◌≡◌, ◌+◌, ◌<◌, ◌≤◌, ◌++◌, [], ℕ, IfOk, None, flat_map, length, true};
+ghost use Rattle.std.specs.Prelude.{◌≡◌, ◌+◌, ◌<◌, ◌≤◌, ◌++◌, [], ℕ, IfOk, flat_map, length, true};
 ghost use Rattle.pm_procs.specs.Pending.{pending_at};
 ghost use Rattle.pm_values.specs.Along.{mode_logged, modes_of, trail_at_load};
-ghost use Rattle.pm_tell.specs.Ended.{ended_at, ended_from};
+ghost use Rattle.pm_tell.specs.Ended.{ended_at};
 ghost use Rattle.pm_values.specs.Notifications.{notice_count};
-ghost use Rattle.pm_tell.specs.Telling.{news_in, turns_in};
+ghost use Rattle.pm_tell.specs.Telling.{news_in, turns_in, with_news, without_news};
 ghost use Rattle.pm_tell.specs.Callbacks.{IsQuiet, noticed_by, notes_of_master};
-ghost use Rattle.pm_calls.specs.Verdict.{aborted_by, asked_by};
 
 use crate::ended::{Ended, ended_at};
 use pm_base::{BoundedList, Mode, NoMemory, at_or};
@@ -98,9 +97,7 @@ impl Telling {
     pub fn log_modes(&mut self, tables: &Tables)
         requires places { length self.old.modes.items ≡ length tables.now.fixed.object.masters }
         ensures modes { self.new.modes.items ≡ modes_of tables.now }
-        ensures along { self.new.along ≡ self.old.along }
-        ensures ended { self.new.ended ≡ self.old.ended }
-        ensures notices { self.new.notices ≡ self.old.notices }
+        ensures rest { self.new ≡ record self.old { modes = self.new.modes } }
     {
         log_modes(tables, &mut self.modes);
     }
@@ -110,13 +107,7 @@ impl Telling {
     pub(crate) fn log_ended(&mut self, tables: &Tables, says: Option<Say>, count: Option<u32>)
         requires each { length tables.now.now.talk.pending ≡ length tables.now.fixed.object.masters }
         requires room { length tables.now.fixed.object.masters ≤ self.old.ended.room }
-        ensures modes { self.new.modes ≡ self.old.modes }
-        ensures along { self.new.along ≡ self.old.along }
-        ensures asks { self.new.asks ≡ asked_by says }
-        ensures notices { self.new.notices ≡ self.old.notices }
-        ensures ended { self.new.ended ≡ record self.old.ended {
-          items = ended_from (turns_in self.old) (aborted_by says) count 0 tables.now.now.talk.pending;
-        } }
+        ensures news { self.new ≡ with_news says count tables.now self.old }
         ensures few { length self.new.ended.items ≤ length tables.now.fixed.object.masters }
     {
         self.asks = asked_by(says);
@@ -129,11 +120,7 @@ impl Telling {
 
     /// No master is asked, and no request ends.
     pub(crate) fn clear_news(&mut self)
-        ensures modes { self.new.modes ≡ self.old.modes }
-        ensures along { self.new.along ≡ self.old.along }
-        ensures asks { self.new.asks ≡ None }
-        ensures notices { self.new.notices ≡ self.old.notices }
-        ensures ended { self.new.ended ≡ record self.old.ended { items = [] } }
+        ensures { self.new ≡ without_news self.old }
     {
         self.asks = None;
         self.ended.clear();
@@ -142,13 +129,11 @@ impl Telling {
     /// Logs the end of what is pending on the master at a place.
     fn log_end(&mut self, tables: &Tables, aborts: Option<usize>, count: Option<u32>, m: usize)
         requires room { length self.old.ended.items < self.old.ended.room }
-        ensures modes { self.new.modes ≡ self.old.modes }
-        ensures along { self.new.along ≡ self.old.along }
-        ensures asks { self.new.asks ≡ self.old.asks }
-        ensures notices { self.new.notices ≡ self.old.notices }
-        ensures ended { self.new.ended ≡ record self.old.ended {
-          items = self.old.ended.items
-              ++ ended_at (turns_in self.old m) aborts count m (pending_at m tables.now.now.talk.pending);
+        ensures { self.new ≡ record self.old {
+          ended = record self.old.ended {
+            items = self.old.ended.items
+                ++ ended_at (turns_in self.old m) aborts count m (pending_at m tables.now.now.talk.pending);
+          };
         } }
     {
         if let Some(request) = tables.pending(m) {

@@ -2,6 +2,7 @@ use Rattle.std.proofs.Common.{◌≡◌, ℕ, ◌<◌, ◌++◌, false, [], leng
 use Rattle.pm_state.specs.Members.{mode_of_master}
 use Rattle.pm_state.specs.Talk.{talked}
 use Rattle.pm_tell.specs.Callbacks.{IsQuiet, callbacks, note_changes, wakes}
+use Rattle.pm_tell.specs.declared.telling.Telling.{Telling}
 use Rattle.pm_tell.specs.Telling.{news_in}
 use Rattle.pm_values.specs.Along.{mode_logged}
 use Rattle.pm_tell.proofs.QuietLaw.{no_calls, no_changes, none_wakes}
@@ -13,7 +14,7 @@ quiet c = c.has_no_news.ensures c.if-not-has_no_news.false
 
 -- and none wakes
 sleeps : (c : goal.Else-not-has_no_news) → (m : ℕ) → m < length c.args.tables.now.fixed.object.masters → wakes (mode_logged c.clear_news.new.self.modes.items m) (mode_of_master c.args.tables.now.fixed c.args.tables.now.now.core m) ≡ false
-sleeps c = none_wakes c.args.tables.now c.clear_news.new.self.modes.items (ap (λ v. v.items) c.clear_news.ensures.modes ∙ c.requires.modes)
+sleeps c = none_wakes c.args.tables.now c.clear_news.new.self.modes.items (ap (λ (t : Telling). t.modes.items) c.clear_news.ensures ∙ c.requires.modes)
 
 pub returns-else-not-has_no_news-clause-book : goal.returns-else-not-has_no_news-clause-book
 returns-else-not-has_no_news-clause-book c =

@@ -7,7 +7,8 @@ use Rattle.pm_notify.specs.declared.notes.Waiting.{Waiting}
 use Rattle.pm_topology.specs.declared.topology.Topology.{Topology}
 use Rattle.pm_topology.specs.Units.{units_of, entry_count}
 use Rattle.pm_values.specs.Caches.{AreKept, moved_by, value_by}
-use Rattle.pm_tell.specs.Callbacks.{callbacks, late_replies}
+use Rattle.pm_tell.specs.declared.telling.Telling.{Telling}
+use Rattle.pm_tell.specs.Callbacks.{callback_count, callbacks, callbacks_at_most, late_replies}
 use Rattle.pm_values.specs.Along.{IsTrail, Trail, mode_logged, modes_of, turns_logged}
 use Rattle.pm_tell.specs.Served.{pulse_in, says_in}
 use Rattle.pm_base.specs.BoundedList.{Bounded}
@@ -17,13 +18,13 @@ use Rattle.pm_tell.specs.declared.late.Late.{Late}
 use Rattle.pm_values.specs.declared.starts.Start.{Start}
 use Rattle.pm_state.specs.Stages.{after_stages}
 use Rattle.pm_values.specs.Starts.{starts, was_down}
-use Rattle.pm_state.specs.State.{State}
+use Rattle.pm_state.specs.State.{Fixed, State, TalkHalf}
 use Rattle.pm_step.specs.Fresh.{IsFresh}
 use Rattle.pm_core.specs.Step.{effect, ended, served, modes_in, news, opening, path, pulse, stages, answer_by, answer_to}
 use Rattle.pm_tell.specs.Telling.{notes_after, tellings, HasPlaces, news_in, opening_in}
 use Rattle.pm_tell.specs.Ended.{ended_from}
 use Rattle.pm_values.specs.Notifications.{notifications}
-use Rattle.pm_state.specs.Units.{units, moved}
+use Rattle.pm_state.specs.Units.{moved, unit_count, units}
 use Rattle.pm_state.specs.Values.{value}
 use Rattle.pm_calls.specs.Verdict.{aborted_by}
 use Rattle.pm_values.proofs.CachesLaw.{kept_places, kept_talked}
@@ -71,31 +72,6 @@ follow-requires-clause-touched c =
     (ap (leaves_values c.args.event.now) c.self.view_is ∙ sym c.requires.still) c.advance.ensures.book c.advance.ensures.served c.self.invariant.0.sound c.self.invariant.1 c.advance.ensures.along
     (c.deref.ensures.value ∙ c.advance.ensures.modes) (c.advance.ensures.now ∙ ap modes_of c.advance.ensures.book))
 
-pub tell_event-requires-clause-each : goal.tell_event-requires-clause-each
-tell_event-requires-clause-each c =
-    let old = c.self.inside.tables in
-    ap (λ (b : State). length b.now.talk.pending) c.advance.ensures.book
-    ∙ (ap (λ t. length t.pending) (stages_talk (stages c.args.event.now old) old)
-    ∙ (c.self.invariant.0.sound.pending.each
-    ∙ sym (ap (λ (b : State). length b.fixed.object.masters) c.advance.ensures.book)))
-
-pub tell_event-requires-clause-notes : goal.tell_event-requires-clause-notes
-tell_event-requires-clause-notes c =
-    let old = c.self.inside.tables in
-    let P : State → Type 0 = λ b. AreNotes b.fixed.topology (length b.fixed.object.masters) b.now.talk.notes in
-    let Q : _ → Type 0 = λ t. AreNotes old.fixed.topology (length old.fixed.object.masters) t.notes in
-    subst P (sym c.advance.ensures.book) (subst Q (sym (stages_talk (stages c.args.event.now old) old)) c.self.invariant.0.sound.notes)
-
-pub tell_event-requires-clause-few : goal.tell_event-requires-clause-few
-tell_event-requires-clause-few c =
-    let old = c.self.inside.tables in
-    let values : length c.self.inside.caches.values ≡ length (units old) =
-    ap length c.self.invariant.1.values ∙ length-map (units old) (λ u. (u, value u old))
-    in
-    let same : length (units c.advance.new.tables) ≡ length (units old) = ap (λ (b : State). length (units b)) c.advance.ensures.book in
-    let few : length (units c.advance.new.tables) ≤ entry_count c.advance.new.tables.fixed.topology = c.units_stand_in_order.ensures.few c.advance.new.tables.fixed.topology in
-    omega (arith, values, same, few, c.follow.ensures.found.few)
-
 -- a call that leaves all modes has what is begun logged, and nobody told
 pub tell_event-requires-clause-plain : goal.tell_event-requires-clause-plain
 tell_event-requires-clause-plain c =
@@ -107,14 +83,44 @@ tell_event-requires-clause-plain c =
     let fresh = c.advance.ensures.fresh still in
     record { modes = fresh.modes; along = fresh.along })
 
-pub tell_event-requires-clause-places : goal.tell_event-requires-clause-places
-tell_event-requires-clause-places c =
+-- the masters may be told of the stages of the step
+pub tell_event-requires-clause-may : goal.tell_event-requires-clause-may
+tell_event-requires-clause-may c =
+    let old = c.self.inside.tables in
+    let mid = c.advance.new.tables in
     let places = c.advance.ensures.places in
+    let P : State → Type 0 = λ b. AreNotes b.fixed.topology (length b.fixed.object.masters) b.now.talk.notes in
+    let Q : TalkHalf → Type 0 = λ t. AreNotes old.fixed.topology (length old.fixed.object.masters) t.notes in
+    let values : length c.self.inside.caches.values ≡ length (units old) =
+    ap length c.self.invariant.1.values ∙ length-map (units old) (λ u. (u, value u old))
+    in
+    let same : length (units mid) ≡ length (units old) = ap (λ (b : State). length (units b)) c.advance.ensures.book in
+    let few : length (units mid) ≤ entry_count mid.fixed.topology = c.units_stand_in_order.ensures.few mid.fixed.topology in
+    let fixed : mid.fixed ≡ c.args.self.now.fixed =
+    ap (λ (b : State). b.fixed) c.advance.ensures.book ∙ ap (λ (b : State). b.fixed) c.self.view_is
+    in
+    let masters : length mid.fixed.object.masters ≡ length c.args.self.now.fixed.object.masters = ap (λ (f : Fixed). length f.object.masters) fixed in
+    let calls : callbacks_at_most mid ≡ callbacks_at_most c.args.self.now =
+    ap (λ (f : Fixed). callback_count (unit_count f.topology) (length f.object.masters)) fixed
+    in
     record {
-      modes = places.modes;
-      along = places.along;
-      ended = places.ended;
-      notices = omega (arith, places.notices, ap (λ (l : Bounded Waiting). l.room) c.follow.ensures.found.notices);
+      notify = record {
+        kept = c.follow.ensures.kept;
+        notes = subst P (sym c.advance.ensures.book) (subst Q (sym (stages_talk (stages c.args.event.now old) old)) c.self.invariant.0.sound.notes);
+        places = record {
+          modes = places.modes;
+          along = places.along;
+          ended = places.ended;
+          notices = omega (arith, places.notices, ap (λ (l : Bounded Waiting). l.room) c.follow.ensures.found.notices);
+        };
+        few = omega (arith, values, same, few, c.follow.ensures.found.few);
+        room = omega (arith, calls, ap length c.requires.empty.callbacks, c.requires.room.callbacks);
+      };
+      each = ap (λ (b : State). length b.now.talk.pending) c.advance.ensures.book
+          ∙ (ap (λ t. length t.pending) (stages_talk (stages c.args.event.now old) old)
+          ∙ (c.self.invariant.0.sound.pending.each
+          ∙ sym (ap (λ (b : State). length b.fixed.object.masters) c.advance.ensures.book)));
+      room = omega (arith, masters, ap length c.requires.empty.late, c.requires.room.late);
     }
 
 -- what was logged until the masters were told
@@ -131,15 +137,16 @@ told c =
       mid_is = c.advance.ensures.book;
       served_is = c.advance.ensures.served;
       count_is = c.time_of-count.ensures;
-      along_is = subst Along (sym c.tell_event.ensures.along) c.advance.ensures.along;
-      modes_are = ap (λ v. v.items) c.tell_event.ensures.modes ∙ c.advance.ensures.modes;
-      asks_are = c.tell_event.ensures.asks;
-      ended_are = c.tell_event.ensures.ended
+      along_is = subst Along (sym (ap (λ (t : Telling). t.along) c.tell_event.ensures.news)) c.advance.ensures.along;
+      modes_are = ap (λ (t : Telling). t.modes.items) c.tell_event.ensures.news ∙ c.advance.ensures.modes;
+      asks_are = ap (λ (t : Telling). t.asks) c.tell_event.ensures.news;
+      ended_are = ap (λ (t : Telling). t.ended.items) c.tell_event.ensures.news
           ∙ ap (λ (n : Trail). ended_from (λ m. turns_logged m n.turns) (aborted_by (says_in c.advance.new.taken)) c.time_of-count.result 0 mid.now.talk.pending)
-          (sym c.tell_event.ensures.along);
-      notices_are = ap (λ (l : Bounded Waiting). l.items) (c.tell_event.ensures.notices ∙ c.follow.ensures.found.notices)
+          (sym (ap (λ (t : Telling). t.along) c.tell_event.ensures.news));
+      notices_are = ap (λ (t : Telling). t.notices.items) c.tell_event.ensures.news
+          ∙ (ap (λ (l : Bounded Waiting). l.items) c.follow.ensures.found.notices
           ∙ (notices_are c.kinds_are_exact.ensures old mid caches.kinds.items caches.used.items caches.values fixed c.self.invariant.1.kinds c.self.invariant.1.used c.self.invariant.1.values
-          ∙ ap (notifications old) c.advance.ensures.book);
+          ∙ ap (notifications old) c.advance.ensures.book));
     })
     c.self.invariant.0.sound.pending.each c.tell_event.ensures.book
 
@@ -153,8 +160,17 @@ answer-requires-2 c =
 
 pub begin_after-requires-clause-places : goal.begin_after-requires-clause-places
 begin_after-requires-clause-places c =
+    let mid = c.advance.new.tables in
+    let places = c.advance.ensures.places in
+    let P : Telling → Type 0 = λ t. HasPlaces mid.fixed.topology (length mid.fixed.object.masters) t in
     let Q : State → Type 0 = λ b. HasPlaces b.fixed.topology (length b.fixed.object.masters) c.tell_event.new.telling in
-    subst Q (sym c.tell_event.ensures.book) c.tell_event.ensures.places
+    subst Q (sym c.tell_event.ensures.book)
+    (subst P (sym c.tell_event.ensures.news) (record {
+      modes = places.modes;
+      along = places.along;
+      ended = places.ended;
+      notices = omega (arith, places.notices, ap (λ (l : Bounded Waiting). l.room) c.follow.ensures.found.notices);
+    }))
 
 -- where no processor moved, what is told leaves what is begun for the next step
 pub begin_after-requires-clause-fresh : goal.begin_after-requires-clause-fresh
@@ -164,8 +180,8 @@ begin_after-requires-clause-fresh c =
     λ still.
     let fresh = c.advance.ensures.fresh still in
     subst P (sym c.tell_event.ensures.book) (record {
-      modes = ap (λ v. v.items) c.tell_event.ensures.modes ∙ fresh.modes;
-      along = c.tell_event.ensures.along ∙ fresh.along;
+      modes = ap (λ (t : Telling). t.modes.items) c.tell_event.ensures.news ∙ fresh.modes;
+      along = ap (λ (t : Telling). t.along) c.tell_event.ensures.news ∙ fresh.along;
     })
 
 pub invariant_of-self-2 : goal.invariant_of-self-2
