@@ -1,4 +1,4 @@
-//! What the masters are told of an event.
+//! Telling the masters of an event.
 
 ghost use Rattle.std.specs.Prelude.{◌≡◌, true};
 ghost use Rattle.pm_step.specs.Fresh.{IsPlain, is_plain};
@@ -20,8 +20,8 @@ fn is_plain(served: &Option<Served>) -> bool
     }
 }
 
-/// What the masters are told after the stages of an event. A call that only reads, or changes a row of its caller,
-/// changes no mode and has none of them told anything, so they are told of what happened to nodes alone.
+/// Tells the masters of an event after its stages. A call that only reads, or changes a row of its caller, changes no
+/// mode and has none of them told anything, so they are told of the events of nodes alone.
 pub fn tell_event(
     tables: &mut Tables,
     caches: &Caches,

@@ -1,4 +1,4 @@
-//! What masters are told in a step by callbacks.
+//! The callbacks to the masters in a step.
 
 ghost use Rattle.std.specs.Prelude.{◌≡◌, ◌+◌, ◌<◌, ◌≤◌, ◌++◌, false, length, flat_map, map, option_to_list};
 ghost use Rattle.pm_tell.specs.Callbacks.{callbacks_at_most, notes_of_master, told_if};
@@ -98,7 +98,7 @@ fn callback_by(master: NodeId, node: NodeId, now: u32, note: Note) -> Callback
     }
 }
 
-/// The acknowledgement of a request that ended, for the master at a place, where that asked and wants it.
+/// The acknowledgement of a request that ended, for the master at a place, if that asked and wants it.
 pub(crate) fn acknowledged_to(k: usize, end: &Ended) -> Option<Waiting>
     ensures { option_to_list result ≡ spec.acknowledged_to k end.now }
 {
@@ -145,8 +145,8 @@ pub(crate) fn tell_masters(
     }
 }
 
-/// Whether some master was asleep before the step and is active or suspending after it. Otherwise none is told what
-/// waited.
+/// Whether some master was asleep before the step and is active or suspending after it. Otherwise no note that waited
+/// is told.
 fn one_wakes(tables: &Tables, telling: &Telling) -> bool
     ensures { result ≡ false → NoneWakes telling.now tables.now }
 {
@@ -158,7 +158,7 @@ fn one_wakes(tables: &Tables, telling: &Telling) -> bool
     false
 }
 
-/// Tells the master at a place what there is to tell. Nothing is told to one that is off.
+/// Tells the master at a place the news. Nothing is told to one that is off.
 fn tell_master(
     tables: &mut Tables,
     caches: &Caches,
@@ -186,8 +186,8 @@ fn tell_master(
     }
 }
 
-/// Puts what a master is told into `callbacks`: all that waits where it was asleep before the step, that
-/// it is asked to suspend, and the notes to it.
+/// Puts the callbacks to a master into `callbacks`: of all notes that wait, if it was asleep before the step, of the
+/// request to suspend, and of the new notes to it.
 fn tell_awake(
     tables: &mut Tables,
     caches: &Caches,

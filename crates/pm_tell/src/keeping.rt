@@ -1,4 +1,4 @@
-//! Which notes wait for a master that is asleep.
+//! The notes that wait for a master that is asleep.
 
 ghost use Rattle.std.specs.Prelude.{◌≡◌, flat_map, map};
 ghost use Rattle.pm_tell.specs.Callbacks as spec;

@@ -15,7 +15,7 @@ pub struct Late {
     pub status: u32,
 }
 
-/// The late reply for a request that ended, where the master that asked wants one.
+/// The late reply for a request that ended, if the master that asked wants one.
 fn late_by(ack: AckKind, master: NodeId, status: u32) -> Option<Late>
     ensures { option_to_list result ≡ spec.late_by ack master status }
 {

@@ -1,4 +1,4 @@
-//! What masters are told of a step: requests that end, late replies, callbacks, and notes that wait.
+//! Telling the masters of a step: requests that end, late replies, callbacks, and notes that wait.
 #![tactic(auto)]
 
 mod callbacks;

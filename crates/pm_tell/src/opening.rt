@@ -1,4 +1,4 @@
-//! What is done before any master is told of a step.
+//! The changes that come before any master is told of a step.
 
 ghost use Rattle.std.specs.Prelude.{◌≡◌};
 ghost use Rattle.pm_tell.specs.Opening.{ends, forget_at, forgets_from, lower_by, sweep_by, say_by};
@@ -12,9 +12,9 @@ use crate::telling::Telling;
 use pm_calls::Say;
 use pm_state::Tables;
 
-/// What is done before any master is told: all is as at load, if all is restarted, or no notifier is left, if another
-/// object is in force; masters that became off forget what they asked for, a notifier is put or a master is asked,
-/// time passes, and requests end.
+/// Makes the changes that come before any master is told: all is as at load, if all is restarted, or no notifier is
+/// left, if another object is in force; masters that became off forget what they asked for, a notifier is put or a
+/// master is asked, time passes, and requests end.
 pub(crate) fn open(
     tables: &mut Tables,
     telling: &Telling,

@@ -1,4 +1,4 @@
-//! A message with the verdict on it, and what waits for its sender.
+//! A message with the verdict on it, and the note that waits for its sender.
 
 ghost use Rattle.std.specs.Prelude.{◌≡◌, Some, option_to_list};
 ghost use Rattle.pm_ipi.specs.Calls.{ack_of, node_of};
@@ -40,7 +40,7 @@ pub fn pulse_in(served: &Option<Served>) -> Option<LineId>
     }
 }
 
-/// What waits for the sender of a message that is asleep after it: the acknowledgement of its call.
+/// Lets the acknowledgement of a call wait for the sender of its message, if that is asleep after it.
 pub(crate) fn keep_own(tables: &mut Tables, served: &Option<Served>)
     ensures { tables.new ≡ talked (kept_of served.now tables.old) tables.old }
 {
@@ -62,7 +62,7 @@ fn keep_at(tables: &mut Tables, m: usize, note: Option<Waiting>)
     }
 }
 
-/// The acknowledgement of a call as a note, where its caller wants the callback and is answered now.
+/// The acknowledgement of a call as a note, if its caller wants the callback and is answered now.
 fn own_note(response: Option<Response>, call: &Call) -> Option<Waiting>
     ensures { option_to_list result ≡ own_note response (ack_of call.now) (node_of call.now) }
 {

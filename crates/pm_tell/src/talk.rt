@@ -1,4 +1,4 @@
-//! What changes when the masters are told of a step: what they asked for, what is pending on them, and their notes.
+//! Telling the masters of a step: their notifiers, the requests that are pending on them and their notes change.
 
 ghost use Rattle.std.specs.Prelude.{◌≡◌, ◌++◌};
 ghost use Rattle.pm_tell.specs.Callbacks as spec;
@@ -18,8 +18,8 @@ use pm_notify::notes_stand_in_order;
 use pm_state::Tables;
 use pm_values::Caches;
 
-/// What the masters are told after the stages of a step: who is asked to suspend, which requests end, by
-/// late replies and callbacks, and what happened to nodes.
+/// Tells the masters of a step after its stages, by late replies and callbacks: of the one that is asked to suspend, of
+/// the requests that end, and of the events of nodes.
 pub fn tell(
     tables: &mut Tables,
     caches: &Caches,
@@ -42,8 +42,8 @@ pub fn tell(
     tell_late(tables, telling.ended(), late);
 }
 
-/// The same where no mode has changed, no message has the masters told anything, and no time passes: no request ends,
-/// and they are told of what happened to nodes alone.
+/// The same of a step in which no mode changes, no message has the masters told anything and no time passes: no request
+/// ends, and they are told of the events of nodes alone.
 pub fn tell_notices(
     tables: &mut Tables,
     caches: &Caches,

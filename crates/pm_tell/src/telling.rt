@@ -17,9 +17,9 @@ use pm_state::Tables;
 use pm_values::{Along, Turns, log_modes};
 use std::alloc::Global;
 
-/// The modes of the masters before a step, what is logged along it, the master that is asked to suspend in
-/// it, the requests that end in it, with room for one for each master, and what happens to nodes in it,
-/// with room for two notes about each unit.
+/// The log of a step: the modes of the masters before it, the changes of their modes along it, the master that is
+/// asked to suspend in it, the requests that end in it, with room for one for each master, and the events of nodes in
+/// it, with room for two notes about each unit.
 #[derive(Drop)]
 pub struct Telling {
     pub modes: Vec<Mode>,
@@ -66,8 +66,8 @@ impl Telling {
         self.ended.as_slice()
     }
 
-    /// Whether no master is asked to suspend in the step, no request ends in it, and none has asked to be told of what
-    /// happens to nodes.
+    /// Whether no master is asked to suspend in the step, no request ends in it, and none has asked to be told of its
+    /// events of nodes.
     pub(crate) fn has_no_news(&self, tables: &Tables) -> bool
         ensures { result ≡ true → IsQuiet (news_in self.now) tables.now.now.talk.notes }
     {
@@ -86,7 +86,7 @@ impl Telling {
         }
     }
 
-    /// What happens to nodes in the step.
+    /// The events of nodes in the step.
     pub(crate) fn notices(&self) -> &[Waiting]
         ensures { result.now ≡ self.now.notices.items }
     {
