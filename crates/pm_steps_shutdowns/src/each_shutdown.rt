@@ -36,7 +36,7 @@ static BEFORE: [Trigger; 12] = [
 
 /// What the shutdown comes to: the status, the late replies and the callbacks, the values of nodes after it, and that of the
 /// line; and what is told later on.
-type Outcome = (
+type Expected = (
     u32,
     &'static [Reply],
     &'static [Call],
@@ -46,9 +46,9 @@ type Outcome = (
 );
 
 /// Nothing happens: later on both requests time out, and master 8 hears of slave 11 when it wakes.
-const UNCHANGED: Outcome = (0, &[], &[], STANDS, 1, GOES_ON);
+const UNCHANGED: Expected = (0, &[], &[], STANDS, 1, GOES_ON);
 
-const REFUSED: Outcome = (2002, &[], &[], STANDS, 1, GOES_ON);
+const REFUSED: Expected = (2002, &[], &[], STANDS, 1, GOES_ON);
 
 const STANDS: &[(u32, u32)] = &[
     (1, 1),
@@ -78,7 +78,7 @@ const GOES_ON: &[Notice] = &[
 ];
 
 /// Master 1 is off: the request on it is done, its own one is still pending, and it hears of nothing any more.
-const OFF: Outcome = (
+const OFF: Expected = (
     0,
     &[],
     &[(7, 31, [1, 0, 0, 0])],
@@ -99,7 +99,7 @@ const OFF: Outcome = (
 );
 
 /// Master 1 was off, and runs again with its first processor.
-const AGAIN: Outcome = (
+const AGAIN: Expected = (
     0,
     &[],
     &[(7, 31, [1, 0, 1, 0])],
@@ -136,7 +136,7 @@ const WITHOUT_THE_FIRST: &[Notice] = &[
 ];
 
 /// All are off: both requests are done, of which a late reply tells alone, and nothing happens any more.
-const HALTED: Outcome = (
+const HALTED: Expected = (
     0,
     &[(1, 0)],
     &[],
@@ -163,7 +163,7 @@ const HALTED: Outcome = (
 );
 
 /// All is as at load: the slaves of the first master are held, the line is released, and nobody hears of anything.
-const ANEW: Outcome = (
+const ANEW: Expected = (
     0,
     &[(1, 0)],
     &[],
@@ -191,7 +191,7 @@ const ANEW: Outcome = (
 );
 
 /// A shutdown by master 1: the masters that may shut down by subtypes 1 and 2, the type, the subtype, and what it comes to.
-type Shutdown = (u32, u32, u32, u32, Outcome);
+type Shutdown = (u32, u32, u32, u32, Expected);
 
 static SHUTDOWNS: [Shutdown; 20] = [
     // the caller alone needs no permission
@@ -231,8 +231,8 @@ fn prepared(alloc: Global, first: u32, second: u32) -> Result<Box<Desk>, Fail> {
     Ok(desk)
 }
 
-fn is_wrong(desk: &mut Desk, kind: u32, subtype: u32, outcome: &Outcome) -> bool {
-    let (status, late, calls, values, line, later) = *outcome;
+fn is_wrong(desk: &mut Desk, kind: u32, subtype: u32, expected: &Expected) -> bool {
+    let (status, late, calls, values, line, later) = *expected;
     let case: Case = (1, 12, [kind, subtype, 0, 0], Want::Reply(status, [0; 3]));
     wrong_answer(desk, &[case]).is_some()
         || !have_replied(&desk.out, late)
@@ -243,9 +243,9 @@ fn is_wrong(desk: &mut Desk, kind: u32, subtype: u32, outcome: &Outcome) -> bool
 }
 
 fn wrong_shutdown(alloc: Global) -> Result<Option<usize>, Fail> {
-    for (place, (first, second, kind, subtype, outcome)) in SHUTDOWNS.iter().enumerate() {
+    for (place, (first, second, kind, subtype, expected)) in SHUTDOWNS.iter().enumerate() {
         let mut desk = prepared(alloc, *first, *second)?;
-        if is_wrong(&mut desk, *kind, *subtype, outcome) {
+        if is_wrong(&mut desk, *kind, *subtype, expected) {
             return Ok(Some(place));
         }
     }

@@ -60,7 +60,7 @@ enum Added {
     IsFull,
 }
 
-fn outcome_of(adding: Result<(), AddError>) -> Added {
+fn result_of(adding: Result<(), AddError>) -> Added {
     match adding {
         Ok(()) => Added::Done,
         Err(AddError::Overlap(_)) => Added::Overlaps,
@@ -80,16 +80,16 @@ fn add(
     if first < 256 || last < first || 65535 < last {
         return Ok(Added::Done);
     }
-    Ok(outcome_of(modules.add(Module::new(first, last, handler))))
+    Ok(result_of(modules.add(Module::new(first, last, handler))))
 }
 
 /// The two modules of the program.
 fn programs_modules(alloc: Global) -> Result<Modules, NoMemory> {
     let mut modules = Modules::new(alloc)?;
     let echo = Box::new(alloc, Echo).map_err(|_| NoMemory)?;
-    let _ = outcome_of(modules.add(Module::new(256, 259, echo)));
+    let _ = result_of(modules.add(Module::new(256, 259, echo)));
     let masked = Box::new(alloc, Masked { mask: 255 }).map_err(|_| NoMemory)?;
-    let _ = outcome_of(modules.add(Module::new(260, 263, masked)));
+    let _ = result_of(modules.add(Module::new(260, 263, masked)));
     Ok(modules)
 }
 
@@ -155,7 +155,7 @@ fn a_handler_may_say_something_else_to_each_word(rt: HostRuntime) -> Result<(), 
     let mut modules = Modules::new(rt.alloc())?;
     let telling = Box::new(rt.alloc(), Telling).map_err(|_| NoMemory)?;
     assert_eq!(rt;
-        outcome_of(modules.add(Module::new(300, 302, telling))),
+        result_of(modules.add(Module::new(300, 302, telling))),
         Added::Done
     );
     all_right(&rt, wrong_answer(&modules, &TOLD));
@@ -232,7 +232,7 @@ fn a_module_that_is_not_added_is_handed_back(rt: HostRuntime) -> Result<(), Fail
     let mut others = Modules::new(rt.alloc())?;
     let handler = Box::new(rt.alloc(), Constant { word: 5 }).map_err(|_| NoMemory)?;
     if let Err(AddError::Overlap(module)) = modules.add(Module::new(258, 260, handler)) {
-        assert_eq!(rt; outcome_of(others.add(module)), Added::Done);
+        assert_eq!(rt; result_of(others.add(module)), Added::Done);
     }
     let message = Message {
         api: 258,

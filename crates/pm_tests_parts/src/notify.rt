@@ -12,7 +12,7 @@ const CHANGE: NodeEvent = NodeEvent::Change;
 const ZERO_USERS: NodeEvent = NodeEvent::ZeroUsers;
 
 /// What is done with the notifiers and slots of three masters, and what is expected.
-enum Deed {
+enum Action {
     /// A master, a node and an event: the notifier is put on or off.
     Put(usize, u32, NodeEvent, bool),
     /// A master, a node and an event: whether it is asked for.
@@ -30,108 +30,108 @@ enum Deed {
 }
 
 /// Notifiers: each is on or off by itself, and cleared with its master's.
-static NOTIFIERS: [Deed; 29] = [
-    Deed::Asked(0, 11, CHANGE, false),
-    Deed::Put(0, 11, CHANGE, true),
-    Deed::Asked(0, 11, CHANGE, true),
-    Deed::Asked(0, 11, ZERO_USERS, false),
-    Deed::Asked(1, 11, CHANGE, false),
-    Deed::Asked(0, 12, CHANGE, false),
-    Deed::Put(0, 11, CHANGE, true),
-    Deed::Put(0, 10, ZERO_USERS, true),
-    Deed::Put(2, 11, ZERO_USERS, true),
-    Deed::Asked(0, 10, ZERO_USERS, true),
-    Deed::Asked(0, 10, CHANGE, false),
-    Deed::Asked(2, 11, ZERO_USERS, true),
-    Deed::Asked(2, 11, CHANGE, false),
-    Deed::Put(0, 11, CHANGE, false),
-    Deed::Asked(0, 11, CHANGE, false),
-    Deed::Asked(0, 10, ZERO_USERS, true),
-    Deed::Put(0, 62, CHANGE, true),
+static NOTIFIERS: [Action; 29] = [
+    Action::Asked(0, 11, CHANGE, false),
+    Action::Put(0, 11, CHANGE, true),
+    Action::Asked(0, 11, CHANGE, true),
+    Action::Asked(0, 11, ZERO_USERS, false),
+    Action::Asked(1, 11, CHANGE, false),
+    Action::Asked(0, 12, CHANGE, false),
+    Action::Put(0, 11, CHANGE, true),
+    Action::Put(0, 10, ZERO_USERS, true),
+    Action::Put(2, 11, ZERO_USERS, true),
+    Action::Asked(0, 10, ZERO_USERS, true),
+    Action::Asked(0, 10, CHANGE, false),
+    Action::Asked(2, 11, ZERO_USERS, true),
+    Action::Asked(2, 11, CHANGE, false),
+    Action::Put(0, 11, CHANGE, false),
+    Action::Asked(0, 11, CHANGE, false),
+    Action::Asked(0, 10, ZERO_USERS, true),
+    Action::Put(0, 62, CHANGE, true),
     // the chip has no node 1000, and there is no fourth master
-    Deed::Put(0, 1000, CHANGE, true),
-    Deed::Asked(0, 1000, CHANGE, false),
-    Deed::Put(3, 11, CHANGE, true),
-    Deed::Asked(3, 11, CHANGE, false),
-    Deed::Clear(3),
-    Deed::Asked(0, 62, CHANGE, true),
-    Deed::Clear(0),
-    Deed::Asked(0, 62, CHANGE, false),
-    Deed::Asked(0, 10, ZERO_USERS, false),
-    Deed::Asked(2, 11, ZERO_USERS, true),
-    Deed::Put(0, 62, CHANGE, true),
-    Deed::Asked(0, 62, CHANGE, true),
+    Action::Put(0, 1000, CHANGE, true),
+    Action::Asked(0, 1000, CHANGE, false),
+    Action::Put(3, 11, CHANGE, true),
+    Action::Asked(3, 11, CHANGE, false),
+    Action::Clear(3),
+    Action::Asked(0, 62, CHANGE, true),
+    Action::Clear(0),
+    Action::Asked(0, 62, CHANGE, false),
+    Action::Asked(0, 10, ZERO_USERS, false),
+    Action::Asked(2, 11, ZERO_USERS, true),
+    Action::Put(0, 62, CHANGE, true),
+    Action::Asked(0, 62, CHANGE, true),
 ];
 
 /// Notes are taken by the number of their node and then by their kind: power node 1 comes before processor 2
 /// and slave 11, though the chip's tables have processors and slaves in other places.
-static ORDER: [Deed; 22] = [
-    Deed::Empty(1),
-    Deed::Wait(1, 33, Note::Change),
-    Deed::Wait(1, 11, Note::ZeroUsers),
-    Deed::Wait(1, 62, Note::Ack { status: 0 }),
-    Deed::Wait(1, 11, Note::Ack { status: 2005 }),
-    Deed::Wait(1, 2, Note::Change),
-    Deed::Wait(1, 11, Note::Change),
-    Deed::Wait(1, 1, Note::Ack { status: 15 }),
-    Deed::Wait(1, 10, Note::Change),
-    Deed::Empty(0),
-    Deed::Empty(2),
-    Deed::Takes(1, 1, Note::Ack { status: 15 }),
-    Deed::Takes(1, 2, Note::Change),
-    Deed::Takes(1, 10, Note::Change),
-    Deed::Takes(1, 11, Note::Ack { status: 2005 }),
-    Deed::Takes(1, 11, Note::Change),
+static ORDER: [Action; 22] = [
+    Action::Empty(1),
+    Action::Wait(1, 33, Note::Change),
+    Action::Wait(1, 11, Note::ZeroUsers),
+    Action::Wait(1, 62, Note::Ack { status: 0 }),
+    Action::Wait(1, 11, Note::Ack { status: 2005 }),
+    Action::Wait(1, 2, Note::Change),
+    Action::Wait(1, 11, Note::Change),
+    Action::Wait(1, 1, Note::Ack { status: 15 }),
+    Action::Wait(1, 10, Note::Change),
+    Action::Empty(0),
+    Action::Empty(2),
+    Action::Takes(1, 1, Note::Ack { status: 15 }),
+    Action::Takes(1, 2, Note::Change),
+    Action::Takes(1, 10, Note::Change),
+    Action::Takes(1, 11, Note::Ack { status: 2005 }),
+    Action::Takes(1, 11, Note::Change),
     // a note that comes while others are taken stands in its place
-    Deed::Wait(1, 1, Note::ZeroUsers),
-    Deed::Takes(1, 1, Note::ZeroUsers),
-    Deed::Takes(1, 11, Note::ZeroUsers),
-    Deed::Takes(1, 33, Note::Change),
-    Deed::Takes(1, 62, Note::Ack { status: 0 }),
-    Deed::Empty(1),
+    Action::Wait(1, 1, Note::ZeroUsers),
+    Action::Takes(1, 1, Note::ZeroUsers),
+    Action::Takes(1, 11, Note::ZeroUsers),
+    Action::Takes(1, 33, Note::Change),
+    Action::Takes(1, 62, Note::Ack { status: 0 }),
+    Action::Empty(1),
 ];
 
 /// One slot for each master, node and kind: the last note counts, and no other slot notices.
-static SLOTS: [Deed; 36] = [
-    Deed::Wait(0, 33, Note::Ack { status: 0 }),
-    Deed::Wait(0, 33, Note::Ack { status: 2006 }),
-    Deed::Wait(2, 33, Note::Ack { status: 19 }),
-    Deed::Takes(0, 33, Note::Ack { status: 2006 }),
-    Deed::Empty(0),
-    Deed::Takes(2, 33, Note::Ack { status: 19 }),
-    Deed::Empty(2),
-    Deed::Wait(0, 33, Note::Change),
-    Deed::Wait(0, 33, Note::Change),
-    Deed::Wait(0, 33, Note::ZeroUsers),
-    Deed::Takes(0, 33, Note::Change),
-    Deed::Takes(0, 33, Note::ZeroUsers),
-    Deed::Empty(0),
+static SLOTS: [Action; 36] = [
+    Action::Wait(0, 33, Note::Ack { status: 0 }),
+    Action::Wait(0, 33, Note::Ack { status: 2006 }),
+    Action::Wait(2, 33, Note::Ack { status: 19 }),
+    Action::Takes(0, 33, Note::Ack { status: 2006 }),
+    Action::Empty(0),
+    Action::Takes(2, 33, Note::Ack { status: 19 }),
+    Action::Empty(2),
+    Action::Wait(0, 33, Note::Change),
+    Action::Wait(0, 33, Note::Change),
+    Action::Wait(0, 33, Note::ZeroUsers),
+    Action::Takes(0, 33, Note::Change),
+    Action::Takes(0, 33, Note::ZeroUsers),
+    Action::Empty(0),
     // nothing waits about a node that the chip doesn't have, nor for a master that isn't there
-    Deed::Wait(0, 1000, Note::Ack { status: 2003 }),
-    Deed::Wait(3, 33, Note::Change),
-    Deed::Empty(0),
-    Deed::Empty(3),
+    Action::Wait(0, 1000, Note::Ack { status: 2003 }),
+    Action::Wait(3, 33, Note::Change),
+    Action::Empty(0),
+    Action::Empty(3),
     // what was asked for stays when notes are taken, and a cleared master loses both
-    Deed::Put(1, 33, CHANGE, true),
-    Deed::Wait(1, 33, Note::Change),
-    Deed::Wait(2, 33, Note::Change),
-    Deed::Takes(1, 33, Note::Change),
-    Deed::Asked(1, 33, CHANGE, true),
-    Deed::Wait(1, 11, Note::ZeroUsers),
-    Deed::Clear(1),
-    Deed::Empty(1),
-    Deed::Takes(2, 33, Note::Change),
+    Action::Put(1, 33, CHANGE, true),
+    Action::Wait(1, 33, Note::Change),
+    Action::Wait(2, 33, Note::Change),
+    Action::Takes(1, 33, Note::Change),
+    Action::Asked(1, 33, CHANGE, true),
+    Action::Wait(1, 11, Note::ZeroUsers),
+    Action::Clear(1),
+    Action::Empty(1),
+    Action::Takes(2, 33, Note::Change),
     // all notifiers are dropped at once, and what waits stays
-    Deed::Put(0, 33, CHANGE, true),
-    Deed::Put(2, 11, CHANGE, true),
-    Deed::Wait(2, 11, Note::Ack { status: 0 }),
-    Deed::Wait(2, 33, Note::Change),
-    Deed::Forget,
-    Deed::Asked(0, 33, CHANGE, false),
-    Deed::Asked(2, 11, CHANGE, false),
-    Deed::Takes(2, 11, Note::Ack { status: 0 }),
-    Deed::Takes(2, 33, Note::Change),
-    Deed::Empty(2),
+    Action::Put(0, 33, CHANGE, true),
+    Action::Put(2, 11, CHANGE, true),
+    Action::Wait(2, 11, Note::Ack { status: 0 }),
+    Action::Wait(2, 33, Note::Change),
+    Action::Forget,
+    Action::Asked(0, 33, CHANGE, false),
+    Action::Asked(2, 11, CHANGE, false),
+    Action::Takes(2, 11, Note::Ack { status: 0 }),
+    Action::Takes(2, 33, Note::Change),
+    Action::Empty(2),
 ];
 
 fn is_taken(taken: Option<Waiting>, node: u32, note: Note) -> bool {
@@ -142,26 +142,26 @@ fn is_taken(taken: Option<Waiting>, node: u32, note: Note) -> bool {
 }
 
 /// Does what a row says, and answers whether what comes is expected.
-fn is_right(notify: &mut Notify, deed: &Deed) -> bool {
-    match deed {
-        Deed::Put(master, node, event, on) => {
+fn is_right(notify: &mut Notify, action: &Action) -> bool {
+    match action {
+        Action::Put(master, node, event, on) => {
             notify.put(*master, NodeId(*node), *event, *on);
             true
         }
-        Deed::Asked(master, node, event, on) => {
+        Action::Asked(master, node, event, on) => {
             notify.asked(*master, NodeId(*node), *event) == *on
         }
-        Deed::Wait(master, node, note) => {
+        Action::Wait(master, node, note) => {
             notify.wait(*master, NodeId(*node), *note);
             true
         }
-        Deed::Takes(master, node, note) => is_taken(notify.take(*master), *node, *note),
-        Deed::Empty(master) => notify.take(*master).is_none(),
-        Deed::Clear(master) => {
+        Action::Takes(master, node, note) => is_taken(notify.take(*master), *node, *note),
+        Action::Empty(master) => notify.take(*master).is_none(),
+        Action::Clear(master) => {
             notify.clear(*master);
             true
         }
-        Deed::Forget => {
+        Action::Forget => {
             notify.forget();
             true
         }
@@ -169,9 +169,9 @@ fn is_right(notify: &mut Notify, deed: &Deed) -> bool {
 }
 
 /// The place of the first row that comes to something else.
-fn wrong_deed(notify: &mut Notify, deeds: &[Deed]) -> Option<usize> {
-    for (place, deed) in deeds.iter().enumerate() {
-        if !is_right(notify, deed) {
+fn wrong_action(notify: &mut Notify, actions: &[Action]) -> Option<usize> {
+    for (place, action) in actions.iter().enumerate() {
+        if !is_right(notify, action) {
             return Some(place);
         }
     }
@@ -188,21 +188,21 @@ fn notifiers(alloc: Global) -> Result<Box<Notify>, Fail> {
 #[test]
 fn each_notifier_is_on_or_off_by_itself(rt: HostRuntime) -> Result<(), Fail> {
     let mut notify = notifiers(rt.alloc())?;
-    all_right(&rt, wrong_deed(&mut notify, &NOTIFIERS));
+    all_right(&rt, wrong_action(&mut notify, &NOTIFIERS));
     Ok(())
 }
 
 #[test]
 fn notes_are_taken_by_node_and_then_by_kind(rt: HostRuntime) -> Result<(), Fail> {
     let mut notify = notifiers(rt.alloc())?;
-    all_right(&rt, wrong_deed(&mut notify, &ORDER));
+    all_right(&rt, wrong_action(&mut notify, &ORDER));
     Ok(())
 }
 
 #[test]
 fn a_later_note_takes_the_slot_of_an_earlier_one(rt: HostRuntime) -> Result<(), Fail> {
     let mut notify = notifiers(rt.alloc())?;
-    all_right(&rt, wrong_deed(&mut notify, &SLOTS));
+    all_right(&rt, wrong_action(&mut notify, &SLOTS));
     Ok(())
 }
 

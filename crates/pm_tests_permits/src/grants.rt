@@ -1,7 +1,7 @@
 //! The same permissions, looked up by the places of masters and units.
 
 use crate::chip::chip;
-use crate::permissions::{Deed, LISTS, Permission, object_of};
+use crate::permissions::{LISTS, Permission, Wish, object_of};
 use crate::rows::{all_right, boxed};
 use pm_base::{LineId, NodeId};
 use pm_grants::Grants;
@@ -26,25 +26,25 @@ fn slave_of(chip: &Topology, node: u32) -> Option<usize> {
 }
 
 /// The same by places: nothing where one of them isn't there.
-fn looked_up(grants: &Grants, object: &Object, chip: &Topology, deed: Deed) -> Option<bool> {
-    match deed {
-        Deed::Use(m, slave) => {
+fn looked_up(grants: &Grants, object: &Object, chip: &Topology, wish: Wish) -> Option<bool> {
+    match wish {
+        Wish::Use(m, slave) => {
             Some(grants.permits_use(place_of(object, m)?, slave_of(chip, slave)?))
         }
-        Deed::Suspend(m, other) => {
+        Wish::Suspend(m, other) => {
             Some(grants.permits_suspend(place_of(object, m)?, place_of(object, other)?))
         }
-        Deed::Wake(m, other) => {
+        Wish::Wake(m, other) => {
             Some(grants.permits_wake(place_of(object, m)?, place_of(object, other)?))
         }
-        Deed::Force(m, node) => {
+        Wish::Force(m, node) => {
             Some(grants.permits_force(place_of(object, m)?, chip.kind(NodeId(node))))
         }
-        Deed::Reset(m, line) => {
+        Wish::Reset(m, line) => {
             Some(grants.permits_reset(place_of(object, m)?, chip.line_place(LineId(line))?))
         }
-        Deed::Shut(m, subtype) => Some(grants.permits_shut(place_of(object, m)?, subtype)),
-        Deed::Configure(m) => Some(grants.permits_configure(place_of(object, m)?)),
+        Wish::Shut(m, subtype) => Some(grants.permits_shut(place_of(object, m)?, subtype)),
+        Wish::Configure(m) => Some(grants.permits_configure(place_of(object, m)?)),
     }
 }
 
@@ -54,10 +54,10 @@ fn wrong_grant(
     head: &str,
     rows: &[Permission],
 ) -> Result<Option<usize>, Fail> {
-    for (place, (rest, deed, want)) in rows.iter().enumerate() {
+    for (place, (rest, wish, want)) in rows.iter().enumerate() {
         let object = object_of(alloc, head, rest)?;
         let grants = boxed(alloc, Grants::load(alloc, &object, chip)?)?;
-        if looked_up(&grants, &object, chip, *deed).unwrap_or(false) != *want {
+        if looked_up(&grants, &object, chip, *wish).unwrap_or(false) != *want {
             return Ok(Some(place));
         }
     }

@@ -15,7 +15,7 @@ const MASTERS: &str = "header\nsection masters\nmaster 1 0x1 0 0 0\nmaster 7 0x1
 /// What a master wants to do: to use a slave, to suspend or wake a master, to force a node, to reset by a line,
 /// to shut down by a subtype, or to configure.
 #[derive(Clone, Copy)]
-pub(crate) enum Deed {
+pub(crate) enum Wish {
     Use(u32, u32),
     Suspend(u32, u32),
     Wake(u32, u32),
@@ -26,52 +26,52 @@ pub(crate) enum Deed {
 }
 
 /// How the text of an object goes on, what a master wants to do, and whether it may.
-pub(crate) type Permission = (&'static str, Deed, bool);
+pub(crate) type Permission = (&'static str, Wish, bool);
 
 /// The section of slaves.
 const USES: &[Permission] = &[
     // alone, and among others
-    ("section slaves\nslave 33 0 0x100\n", Deed::Use(7, 33), true),
-    ("section slaves\nslave 33 0 0x101\n", Deed::Use(7, 33), true),
-    ("section slaves\nslave 33 0 0x101\n", Deed::Use(1, 33), true),
+    ("section slaves\nslave 33 0 0x100\n", Wish::Use(7, 33), true),
+    ("section slaves\nslave 33 0 0x101\n", Wish::Use(7, 33), true),
+    ("section slaves\nslave 33 0 0x101\n", Wish::Use(1, 33), true),
     (
         "section slaves\nslave 34 0 0x1\nslave 33 0 0xFFFFFFFF\n",
-        Deed::Use(7, 33),
+        Wish::Use(7, 33),
         true,
     ),
     // without the master's bit, in the record of another slave, in another section, in none
     (
         "section slaves\nslave 33 0 0x001\n",
-        Deed::Use(7, 33),
+        Wish::Use(7, 33),
         false,
     ),
     (
         "section slaves\nslave 33 0 0xFFFFFEFF\n",
-        Deed::Use(7, 33),
+        Wish::Use(7, 33),
         false,
     ),
     (
         "section slaves\nslave 34 0 0x100\n",
-        Deed::Use(7, 33),
+        Wish::Use(7, 33),
         false,
     ),
-    ("section power\npower 33 0x100\n", Deed::Use(7, 33), false),
-    ("", Deed::Use(7, 33), false),
+    ("section power\npower 33 0x100\n", Wish::Use(7, 33), false),
+    ("", Wish::Use(7, 33), false),
     // a master that isn't configured, and nodes that are no slaves
     (
         "section slaves\nslave 33 0 0x200\n",
-        Deed::Use(8, 33),
+        Wish::Use(8, 33),
         false,
     ),
     (
         "section slaves\nslave 10 0 0x100\n",
-        Deed::Use(7, 10),
+        Wish::Use(7, 10),
         false,
     ),
-    ("section slaves\nslave 7 0 0x100\n", Deed::Use(7, 7), false),
+    ("section slaves\nslave 7 0 0x100\n", Wish::Use(7, 7), false),
     (
         "section slaves\nslave 99 0 0x100\n",
-        Deed::Use(7, 99),
+        Wish::Use(7, 99),
         false,
     ),
 ];
@@ -81,54 +81,54 @@ const SUSPENDS: &[Permission] = &[
     // alone, among others, and oneself
     (
         "master 1 0x1 0 0x100 0\nmaster 7 0x100 0 0 0\n",
-        Deed::Suspend(1, 7),
+        Wish::Suspend(1, 7),
         true,
     ),
     (
         "master 1 0x1 0 0x301 0\nmaster 7 0x100 0 0 0\n",
-        Deed::Suspend(1, 7),
+        Wish::Suspend(1, 7),
         true,
     ),
     (
         "master 1 0x1 0 0x301 0\nmaster 7 0x100 0 0 0\n",
-        Deed::Suspend(1, 1),
+        Wish::Suspend(1, 1),
         true,
     ),
     // without the other's bit, by the other word
     (
         "master 1 0x1 0 0x001 0\nmaster 7 0x100 0 0 0\n",
-        Deed::Suspend(1, 7),
+        Wish::Suspend(1, 7),
         false,
     ),
     (
         "master 1 0x1 0 0xFFFFFEFF 0\nmaster 7 0x100 0 0 0\n",
-        Deed::Suspend(1, 7),
+        Wish::Suspend(1, 7),
         false,
     ),
     (
         "master 1 0x1 0 0x100 0\nmaster 7 0x100 0 0 0\n",
-        Deed::Suspend(1, 1),
+        Wish::Suspend(1, 1),
         false,
     ),
     (
         "master 1 0x1 0 0 0x100\nmaster 7 0x100 0 0 0\n",
-        Deed::Suspend(1, 7),
+        Wish::Suspend(1, 7),
         false,
     ),
     // the other way, and masters that aren't configured
     (
         "master 1 0x1 0 0x100 0\nmaster 7 0x100 0 0 0\n",
-        Deed::Suspend(7, 1),
+        Wish::Suspend(7, 1),
         false,
     ),
     (
         "master 1 0x1 0 0x200 0\nmaster 7 0x100 0 0 0\n",
-        Deed::Suspend(1, 8),
+        Wish::Suspend(1, 8),
         false,
     ),
     (
         "master 1 0x1 0 0x100 0\nmaster 7 0x100 0 0 0\n",
-        Deed::Suspend(8, 7),
+        Wish::Suspend(8, 7),
         false,
     ),
 ];
@@ -138,54 +138,54 @@ const WAKES: &[Permission] = &[
     // alone, among others, and oneself
     (
         "master 1 0x1 0 0 0x100\nmaster 7 0x100 0 0 0\n",
-        Deed::Wake(1, 7),
+        Wish::Wake(1, 7),
         true,
     ),
     (
         "master 1 0x1 0 0 0x301\nmaster 7 0x100 0 0 0\n",
-        Deed::Wake(1, 7),
+        Wish::Wake(1, 7),
         true,
     ),
     (
         "master 1 0x1 0 0 0x301\nmaster 7 0x100 0 0 0\n",
-        Deed::Wake(1, 1),
+        Wish::Wake(1, 1),
         true,
     ),
     // without the other's bit, by the other word
     (
         "master 1 0x1 0 0 0x001\nmaster 7 0x100 0 0 0\n",
-        Deed::Wake(1, 7),
+        Wish::Wake(1, 7),
         false,
     ),
     (
         "master 1 0x1 0 0 0xFFFFFEFF\nmaster 7 0x100 0 0 0\n",
-        Deed::Wake(1, 7),
+        Wish::Wake(1, 7),
         false,
     ),
     (
         "master 1 0x1 0 0 0x100\nmaster 7 0x100 0 0 0\n",
-        Deed::Wake(1, 1),
+        Wish::Wake(1, 1),
         false,
     ),
     (
         "master 1 0x1 0 0x100 0\nmaster 7 0x100 0 0 0\n",
-        Deed::Wake(1, 7),
+        Wish::Wake(1, 7),
         false,
     ),
     // the other way, and masters that aren't configured
     (
         "master 1 0x1 0 0 0x100\nmaster 7 0x100 0 0 0\n",
-        Deed::Wake(7, 1),
+        Wish::Wake(7, 1),
         false,
     ),
     (
         "master 1 0x1 0 0 0x200\nmaster 7 0x100 0 0 0\n",
-        Deed::Wake(1, 8),
+        Wish::Wake(1, 8),
         false,
     ),
     (
         "master 1 0x1 0 0 0x100\nmaster 7 0x100 0 0 0\n",
-        Deed::Wake(8, 7),
+        Wish::Wake(8, 7),
         false,
     ),
 ];
@@ -193,55 +193,55 @@ const WAKES: &[Permission] = &[
 /// The section of power nodes.
 const FORCES: &[Permission] = &[
     // a power node, alone and among others, and a processor
-    ("section power\npower 10 0x100\n", Deed::Force(7, 10), true),
+    ("section power\npower 10 0x100\n", Wish::Force(7, 10), true),
     (
         "section power\npower 9 0x1\npower 10 0x101\n",
-        Deed::Force(7, 10),
+        Wish::Force(7, 10),
         true,
     ),
-    ("section power\npower 2 0x100\n", Deed::Force(7, 2), true),
+    ("section power\npower 2 0x100\n", Wish::Force(7, 2), true),
     // without the master's bit, in the record of another node, in another section, in none
-    ("section power\npower 10 0x001\n", Deed::Force(7, 10), false),
+    ("section power\npower 10 0x001\n", Wish::Force(7, 10), false),
     (
         "section power\npower 10 0xFFFFFEFF\n",
-        Deed::Force(7, 10),
+        Wish::Force(7, 10),
         false,
     ),
-    ("section power\npower 9 0x100\n", Deed::Force(7, 10), false),
-    ("section reset\nreset 2 0x100\n", Deed::Force(7, 2), false),
-    ("", Deed::Force(7, 10), false),
+    ("section power\npower 9 0x100\n", Wish::Force(7, 10), false),
+    ("section reset\nreset 2 0x100\n", Wish::Force(7, 2), false),
+    ("", Wish::Force(7, 10), false),
     // a master that isn't configured, a slave, and no node
-    ("section power\npower 10 0x200\n", Deed::Force(8, 10), false),
-    ("section power\npower 33 0x100\n", Deed::Force(7, 33), false),
-    ("section power\npower 99 0x100\n", Deed::Force(7, 99), false),
+    ("section power\npower 10 0x200\n", Wish::Force(8, 10), false),
+    ("section power\npower 33 0x100\n", Wish::Force(7, 33), false),
+    ("section power\npower 99 0x100\n", Wish::Force(7, 99), false),
 ];
 
 /// The section of reset lines.
 const RESETS: &[Permission] = &[
     // the line of a slave, alone and among others, and that of a processor
-    ("section reset\nreset 33 0x100\n", Deed::Reset(7, 33), true),
+    ("section reset\nreset 33 0x100\n", Wish::Reset(7, 33), true),
     (
         "section reset\nreset 34 0x1\nreset 33 0x101\n",
-        Deed::Reset(7, 33),
+        Wish::Reset(7, 33),
         true,
     ),
-    ("section reset\nreset 2 0x100\n", Deed::Reset(7, 2), true),
+    ("section reset\nreset 2 0x100\n", Wish::Reset(7, 2), true),
     // without the master's bit, in the record of another line, in another section, in none
-    ("section reset\nreset 33 0x001\n", Deed::Reset(7, 33), false),
+    ("section reset\nreset 33 0x001\n", Wish::Reset(7, 33), false),
     (
         "section reset\nreset 33 0xFFFFFEFF\n",
-        Deed::Reset(7, 33),
+        Wish::Reset(7, 33),
         false,
     ),
-    ("section reset\nreset 34 0x100\n", Deed::Reset(7, 33), false),
-    ("section power\npower 33 0x100\n", Deed::Reset(7, 33), false),
-    ("", Deed::Reset(7, 33), false),
+    ("section reset\nreset 34 0x100\n", Wish::Reset(7, 33), false),
+    ("section power\npower 33 0x100\n", Wish::Reset(7, 33), false),
+    ("", Wish::Reset(7, 33), false),
     // a master that isn't configured, and lines that the chip doesn't have
-    ("section reset\nreset 33 0x200\n", Deed::Reset(8, 33), false),
-    ("section reset\nreset 10 0x100\n", Deed::Reset(7, 10), false),
+    ("section reset\nreset 33 0x200\n", Wish::Reset(8, 33), false),
+    ("section reset\nreset 10 0x100\n", Wish::Reset(7, 10), false),
     (
         "section reset\nreset 1000 0x100\n",
-        Deed::Reset(7, 1000),
+        Wish::Reset(7, 1000),
         false,
     ),
 ];
@@ -249,80 +249,80 @@ const RESETS: &[Permission] = &[
 /// The section of shutdowns.
 const SHUTDOWNS: &[Permission] = &[
     // the master itself, with no record, and with one that lacks its bit
-    ("", Deed::Shut(7, 0), true),
-    ("section shutdown\nshutdown 0 0x1\n", Deed::Shut(7, 0), true),
+    ("", Wish::Shut(7, 0), true),
+    ("section shutdown\nshutdown 0 0x1\n", Wish::Shut(7, 0), true),
     // the two subtypes that want a record
     (
         "section shutdown\nshutdown 1 0x100\n",
-        Deed::Shut(7, 1),
+        Wish::Shut(7, 1),
         true,
     ),
     (
         "section shutdown\nshutdown 1 0x1\nshutdown 2 0x101\n",
-        Deed::Shut(7, 2),
+        Wish::Shut(7, 2),
         true,
     ),
     // without the master's bit, by the record of another subtype, by none
     (
         "section shutdown\nshutdown 1 0x001\n",
-        Deed::Shut(7, 1),
+        Wish::Shut(7, 1),
         false,
     ),
     (
         "section shutdown\nshutdown 2 0xFFFFFEFF\n",
-        Deed::Shut(7, 2),
+        Wish::Shut(7, 2),
         false,
     ),
     (
         "section shutdown\nshutdown 2 0x100\n",
-        Deed::Shut(7, 1),
+        Wish::Shut(7, 1),
         false,
     ),
     (
         "section shutdown\nshutdown 1 0x100\n",
-        Deed::Shut(7, 2),
+        Wish::Shut(7, 2),
         false,
     ),
-    ("", Deed::Shut(7, 1), false),
+    ("", Wish::Shut(7, 1), false),
     // masters that aren't configured, and a subtype that there isn't
-    ("", Deed::Shut(8, 0), false),
+    ("", Wish::Shut(8, 0), false),
     (
         "section shutdown\nshutdown 1 0x200\n",
-        Deed::Shut(8, 1),
+        Wish::Shut(8, 1),
         false,
     ),
     (
         "section shutdown\nshutdown 3 0xFFFFFFFF\n",
-        Deed::Shut(7, 3),
+        Wish::Shut(7, 3),
         false,
     ),
 ];
 
 /// The section of set-configuration.
 const CONFIGURATIONS: &[Permission] = &[
-    ("section config\nconfig 0x100 0\n", Deed::Configure(7), true),
-    ("section config\nconfig 0x301 0\n", Deed::Configure(7), true),
+    ("section config\nconfig 0x100 0\n", Wish::Configure(7), true),
+    ("section config\nconfig 0x301 0\n", Wish::Configure(7), true),
     // without the master's bit, by the overlay mask, by no section
     (
         "section config\nconfig 0x001 0\n",
-        Deed::Configure(7),
+        Wish::Configure(7),
         false,
     ),
     (
         "section config\nconfig 0xFFFFFEFF 0\n",
-        Deed::Configure(7),
+        Wish::Configure(7),
         false,
     ),
     (
         "section config\nconfig 0 0x100\n",
-        Deed::Configure(7),
+        Wish::Configure(7),
         false,
     ),
-    ("", Deed::Configure(7), false),
+    ("", Wish::Configure(7), false),
     // a master that isn't configured
     (
         "section config\nconfig 0x200 0\n",
-        Deed::Configure(8),
+        Wish::Configure(8),
         false,
     ),
 ];

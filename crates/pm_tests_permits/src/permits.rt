@@ -1,7 +1,7 @@
 //! What an object permits to each master.
 
 use crate::chip::chip;
-use crate::permissions::{Deed, LISTS, Permission, object_of};
+use crate::permissions::{LISTS, Permission, Wish, object_of};
 use crate::rows::all_right;
 use pm_base::{LineId, NodeId};
 use pm_object::Object;
@@ -10,15 +10,15 @@ use pm_topology::Topology;
 use std::alloc::Global;
 use std::test::Fail;
 
-fn is_permitted(object: &Object, chip: &Topology, deed: Deed) -> bool {
-    match deed {
-        Deed::Use(m, slave) => may_use(object, chip, NodeId(m), NodeId(slave)),
-        Deed::Suspend(m, other) => may_suspend(object, chip, NodeId(m), NodeId(other)),
-        Deed::Wake(m, other) => may_wake(object, chip, NodeId(m), NodeId(other)),
-        Deed::Force(m, node) => may_force(object, chip, NodeId(m), NodeId(node)),
-        Deed::Reset(m, line) => may_reset(object, chip, NodeId(m), LineId(line)),
-        Deed::Shut(m, subtype) => may_shut(object, chip, NodeId(m), subtype),
-        Deed::Configure(m) => may_configure(object, chip, NodeId(m)),
+fn is_permitted(object: &Object, chip: &Topology, wish: Wish) -> bool {
+    match wish {
+        Wish::Use(m, slave) => may_use(object, chip, NodeId(m), NodeId(slave)),
+        Wish::Suspend(m, other) => may_suspend(object, chip, NodeId(m), NodeId(other)),
+        Wish::Wake(m, other) => may_wake(object, chip, NodeId(m), NodeId(other)),
+        Wish::Force(m, node) => may_force(object, chip, NodeId(m), NodeId(node)),
+        Wish::Reset(m, line) => may_reset(object, chip, NodeId(m), LineId(line)),
+        Wish::Shut(m, subtype) => may_shut(object, chip, NodeId(m), subtype),
+        Wish::Configure(m) => may_configure(object, chip, NodeId(m)),
     }
 }
 
@@ -28,9 +28,9 @@ fn wrong_permission(
     head: &str,
     rows: &[Permission],
 ) -> Result<Option<usize>, Fail> {
-    for (place, (rest, deed, want)) in rows.iter().enumerate() {
+    for (place, (rest, wish, want)) in rows.iter().enumerate() {
         let object = object_of(alloc, head, rest)?;
-        if is_permitted(&object, chip, *deed) != *want {
+        if is_permitted(&object, chip, *wish) != *want {
             return Ok(Some(place));
         }
     }
