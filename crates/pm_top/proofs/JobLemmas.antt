@@ -70,7 +70,7 @@ module _ {I : Type 0} (i : Inputs.Ghosts I) (f : Form) (ws : List (List ℕ)) wh
   pub starved : (old new : I) → IsAskedFor i f ws old new (Err Memory)
   starved old new = record { shown = λ seen. inl refl; failed = λ e. absurd (memory_is_read e); known = tt }
 
-  module _ (old new : I) (verdict : Result Subject Fault) (reads : ReadsSubject i.observable f ws (i.state old) (i.state new) verdict) (seen : i.observable) where
+  module _ (old new : I) (result : Result Subject Fault) (reads : ReadsSubject i.observable f ws (i.state old) (i.state new) result) (seen : i.observable) where
     -- which later inputs can be begun
     abbrev begins : (third : Bool) → (3 ≤ (i.state old).room → third ≡ true) → Begins (i.state old)
     begins third three = record {
@@ -81,7 +81,7 @@ module _ {I : Type 0} (i : Inputs.Ghosts I) (f : Form) (ws : List (List ℕ)) wh
     }
 
     -- what was read, by what the inputs showed
-    first : verdict ≡ subject_of f ws (source_prefix f.source (i.state old) (word 1 ws)) (topology_by f.topology ws (i.state old) (not (reads.between.room == 0)))
+    first : result ≡ subject_of f ws (source_prefix f.source (i.state old) (word 1 ws)) (topology_by f.topology ws (i.state old) (not (reads.between.room == 0)))
     first =
         sym reads.is
         ∙ by (object_by f.source reads.prefix) reads.rest

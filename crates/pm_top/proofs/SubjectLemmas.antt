@@ -31,7 +31,7 @@ use Rattle.pm_top.specs.declared.works.Work.{Work}
 use Rattle.pm_top.specs.declared.works.Work.TheVariants.{Replay, Isolate, Make, Write}
 use Rattle.pm_top.specs.Form.{beside, form_of, piece_source}
 use Rattle.pm_top.specs.Words.{word}
-use Rattle.pm_top.specs.Asked.{Says, judged, laboratory_if, line_limit, lines_asked, lines_by, master_of, object_by, object_or_fault, some_lines, subject_by, subject_of, text_or_fault, topology_or_fault, with_master, with_named, with_topology}
+use Rattle.pm_top.specs.Asked.{Says, if_read, laboratory_if, line_limit, lines_asked, lines_by, master_of, object_by, object_or_fault, some_lines, subject_by, subject_of, text_or_fault, topology_or_fault, with_master, with_named, with_topology}
 use Rattle.pm_top.specs.Fit.{HoldsTopology}
 use Rattle.pm_top.specs.Job.{IsFaultOf}
 use Rattle.pm_top.specs.Reads.{IsFaultBehind, IsOfSource}
@@ -79,7 +79,7 @@ unnamed P (Some x) is = let clash : true ≡ false = is in cc
 -- ---- a refusal
 
 module _ (f : Form) where
-  -- what kind of fault a judgement has
+  -- the kind of a fault
   pub record Kind (stop : StopReason) (fault : Fault) : Type 0 where
     pub known : IsFaultOf f fault
     pub unread : fault ≡ Read → IsUnread stop
@@ -90,7 +90,7 @@ module _ (f : Form) where
   lost : (stop : StopReason) (fault : Fault) → IsUnread stop → Read ≡ fault → Kind stop fault
   lost stop fault at same = subst (Kind stop) same (record { known = tt; unread = λ e. at })
 
-  object_kind : (stop : StopReason) (read : Result Object ObjectFault) (fault : Fault) → f.source ≡ source.Object → judged stop (object_or_fault read) ≡ Err fault → Kind stop fault
+  object_kind : (stop : StopReason) (read : Result Object ObjectFault) (fault : Fault) → f.source ≡ source.Object → if_read stop (object_or_fault read) ≡ Err fault → Kind stop fault
   object_kind reason.End (Ok o) fault from is = absurd (ok_is_err is)
   object_kind reason.End (Err error) fault from is = bad reason.End (BadObject error) fault from (object_is_read error) (err_is is)
   object_kind reason.Limit (Ok o) fault from is = absurd (ok_is_err is)
@@ -98,7 +98,7 @@ module _ (f : Form) where
   object_kind reason.Failure read fault from is = lost reason.Failure fault tt (err_is is)
   object_kind reason.Unbegun read fault from is = lost reason.Unbegun fault tt (err_is is)
 
-  text_kind : (stop : StopReason) (read : Result Object TextFault) (fault : Fault) → f.source ≡ source.Text → judged stop (text_or_fault read) ≡ Err fault → Kind stop fault
+  text_kind : (stop : StopReason) (read : Result Object TextFault) (fault : Fault) → f.source ≡ source.Text → if_read stop (text_or_fault read) ≡ Err fault → Kind stop fault
   text_kind reason.End (Ok o) fault from is = absurd (ok_is_err is)
   text_kind reason.End (Err error) fault from is = bad reason.End (BadText error) fault from (text_is_read error) (err_is is)
   text_kind reason.Limit (Ok o) fault from is = absurd (ok_is_err is)
@@ -123,16 +123,16 @@ module _ (f : Form) where
   text_known has (Err (Rule error)) fault is = subst (IsFaultOf f) (err_is is) has
   text_known has (Err (NoRoom starved)) fault is = subst (IsFaultOf f) (err_is is) tt
 
-  judged_known : IsSome f.topology → (stop : StopReason) (meant : Result Topology TopologyError) (fault : Fault) → judged stop (topology_or_fault meant) ≡ Err fault → IsFaultOf f fault
-  judged_known has reason.End meant fault is = text_known has meant fault is
-  judged_known has reason.Limit meant fault is = text_known has meant fault is
-  judged_known has reason.Failure meant fault is = subst (IsFaultOf f) (err_is is) tt
-  judged_known has reason.Unbegun meant fault is = subst (IsFaultOf f) (err_is is) tt
+  read_known : IsSome f.topology → (stop : StopReason) (meant : Result Topology TopologyError) (fault : Fault) → if_read stop (topology_or_fault meant) ≡ Err fault → IsFaultOf f fault
+  read_known has reason.End meant fault is = text_known has meant fault is
+  read_known has reason.Limit meant fault is = text_known has meant fault is
+  read_known has reason.Failure meant fault is = subst (IsFaultOf f) (err_is is) tt
+  read_known has reason.Unbegun meant fault is = subst (IsFaultOf f) (err_is is) tt
 
   topology_known : (shown : Type 0) (ws : List (List ℕ)) (before after : Moment) (fault : Fault) (named : Option ℕ) → f.topology ≡ named → ReadsTopology shown named ws before after (Err fault) → IsFaultOf f fault
   topology_known shown ws before after fault None has read = absurd (err_is_ok read.0)
   topology_known shown ws before after fault (Some k) has read =
-      judged_known (subst (λ (o : Option ℕ). IsSome o) (sym has) refl) read.prefix.stop (meaning read.prefix.bytes) fault read.is
+      read_known (subst (λ (o : Option ℕ). IsSome o) (sym has) refl) read.prefix.stop (meaning read.prefix.bytes) fault read.is
 
   -- how a form was refused: at its object, at its topology, or at the word that names a master
   abbrev pub RefusedBy : Prefix → Result Topology Fault → Fault → Type 0
@@ -371,7 +371,7 @@ subject_is_sound source name object topology lines node ws result counted is for
 -- ---- the kinds of faults
 
 -- those of what a first word names
-of_object_fault : (fault : Fault) (stop : StopReason) (read : Result Object ObjectFault) → judged stop (object_or_fault read) ≡ Err fault → IsOfSource source.Object fault
+of_object_fault : (fault : Fault) (stop : StopReason) (read : Result Object ObjectFault) → if_read stop (object_or_fault read) ≡ Err fault → IsOfSource source.Object fault
 of_object_fault fault reason.End (Ok o) is = absurd (ok_is_err is)
 of_object_fault fault reason.End (Err error) is = subst (IsOfSource source.Object) (err_is is) refl
 of_object_fault fault reason.Limit (Ok o) is = absurd (ok_is_err is)
@@ -379,7 +379,7 @@ of_object_fault fault reason.Limit (Err error) is = subst (IsOfSource source.Obj
 of_object_fault fault reason.Failure read is = subst (IsOfSource source.Object) (err_is is) tt
 of_object_fault fault reason.Unbegun read is = subst (IsOfSource source.Object) (err_is is) tt
 
-of_text_fault : (fault : Fault) (stop : StopReason) (read : Result Object TextFault) → judged stop (text_or_fault read) ≡ Err fault → IsOfSource source.Text fault
+of_text_fault : (fault : Fault) (stop : StopReason) (read : Result Object TextFault) → if_read stop (text_or_fault read) ≡ Err fault → IsOfSource source.Text fault
 of_text_fault fault reason.End (Ok o) is = absurd (ok_is_err is)
 of_text_fault fault reason.End (Err error) is = subst (IsOfSource source.Text) (err_is is) refl
 of_text_fault fault reason.Limit (Ok o) is = absurd (ok_is_err is)
@@ -408,11 +408,11 @@ text_behind (Err (Bad error)) fault is = subst IsFaultBehind (err_is is) tt
 text_behind (Err (Rule error)) fault is = subst IsFaultBehind (err_is is) tt
 text_behind (Err (NoRoom starved)) fault is = subst IsFaultBehind (err_is is) tt
 
-judged_behind : (stop : StopReason) (meant : Result Topology TopologyError) (fault : Fault) → judged stop (topology_or_fault meant) ≡ Err fault → IsFaultBehind fault
-judged_behind reason.End meant fault is = text_behind meant fault is
-judged_behind reason.Limit meant fault is = text_behind meant fault is
-judged_behind reason.Failure meant fault is = subst IsFaultBehind (err_is is) tt
-judged_behind reason.Unbegun meant fault is = subst IsFaultBehind (err_is is) tt
+read_behind : (stop : StopReason) (meant : Result Topology TopologyError) (fault : Fault) → if_read stop (topology_or_fault meant) ≡ Err fault → IsFaultBehind fault
+read_behind reason.End meant fault is = text_behind meant fault is
+read_behind reason.Limit meant fault is = text_behind meant fault is
+read_behind reason.Failure meant fault is = subst IsFaultBehind (err_is is) tt
+read_behind reason.Unbegun meant fault is = subst IsFaultBehind (err_is is) tt
 
 node_behind : (object : Object) (topology : Topology) (lines : ℕ) (named : Option NodeId) (fault : Fault) → with_named object topology lines named ≡ Err fault → IsFaultBehind fault
 node_behind object topology lines (Some m) fault is = absurd (ok_is_err is)
@@ -430,7 +430,7 @@ rest_behind shown f ws object before after (Err fault) (inr rest) = by f.topolog
     by : (named : Option ℕ) (t : Result Topology Fault) → ReadsTopology shown named ws before after t → with_topology object t (lines_by f.source (word 1 ws)) f.node ws ≡ Err fault → IsFaultBehind fault
     by named (Ok topology) read is = master_behind object topology (lines_by f.source (word 1 ws)) f.node ws fault is
     by None (Err due) read is = absurd (err_is_ok read.0)
-    by (Some k) (Err due) read is = subst IsFaultBehind (err_is is) (judged_behind read.prefix.stop (meaning read.prefix.bytes) due read.is)
+    by (Some k) (Err due) read is = subst IsFaultBehind (err_is is) (read_behind read.prefix.stop (meaning read.prefix.bytes) due read.is)
 
 -- a topology is named beside an object alone
 none_beside : (s : Source) (named : Option ℕ) → s ≢ source.Object → beside s named ≡ None

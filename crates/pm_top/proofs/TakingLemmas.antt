@@ -20,7 +20,7 @@ use Rattle.pm_trace.specs.declared.faults.Fault.{Fault}
 use Rattle.pm_trace.specs.declared.faults.Fault.TheVariants.{Memory, Read}
 use Rattle.pm_top.specs.declared.works.Source.{Source}
 use Rattle.pm_top.specs.declared.works.Source.TheVariants as source
-use Rattle.pm_top.specs.Asked.{itself, judged, laboratory_for, laboratory_if, later_prefix, lines_asked, source_prefix, topology_by, topology_limit, topology_of, topology_or_fault}
+use Rattle.pm_top.specs.Asked.{if_read, itself, laboratory_for, laboratory_if, later_prefix, lines_asked, source_prefix, topology_by, topology_limit, topology_of, topology_or_fault}
 use Rattle.pm_top.specs.Fit.{HoldsTopology}
 use Rattle.pm_top.specs.Words.{word}
 use Rattle.pm_top.specs.Within.{ReadsAs, ReadsTopology, Takes}
@@ -56,19 +56,19 @@ module _ (shown : Type 0) (name : List ℕ) (before after : Moment) (p : Prefix)
   taken_room source.Number took seen = let same : before.room ≡ after.room = ap (λ (m : Moment). m.room) took.1 in omega (arith, same)
   taken_room source.Nothing took seen = let same : before.room ≡ after.room = ap (λ (m : Moment). m.room) took.1 in omega (arith, same)
 
--- a number is judged by itself
-pub number_read : (shown : Type 0) (name : List ℕ) (m : Moment) (verdict : Result Object Fault) → (verdict ≡ Err Memory) ⊎ (laboratory_for name ≡ verdict) → (verdict ≡ Err Memory) ⊎ ReadsAs source.Number shown name m m verdict
-number_read shown name m verdict (inl memory) = inl memory
-number_read shown name m verdict (inr is) = inr (record { prefix = itself name; read = (refl, refl); is = is; says = says (lines_asked name) is })
+-- a number is read as it is
+pub number_read : (shown : Type 0) (name : List ℕ) (m : Moment) (result : Result Object Fault) → (result ≡ Err Memory) ⊎ (laboratory_for name ≡ result) → (result ≡ Err Memory) ⊎ ReadsAs source.Number shown name m m result
+number_read shown name m result (inl memory) = inl memory
+number_read shown name m result (inr is) = inr (record { prefix = itself name; read = (refl, refl); is = is; says = says (lines_asked name) is })
   where
-    says : (lines : Option ℕ) → laboratory_if lines ≡ verdict → IfOk verdict (λ object. object ≡ laboratory)
+    says : (lines : Option ℕ) → laboratory_if lines ≡ result → IfOk result (λ object. object ≡ laboratory)
     says None is = subst (λ (v : Result Object Fault). IfOk v (λ object. object ≡ laboratory)) is tt
     says (Some n) is = subst (λ (v : Result Object Fault). IfOk v (λ object. object ≡ laboratory)) is refl
 
 -- nothing is read where there is no word
-pub nothing_read : (shown : Type 0) (name : List ℕ) (m : Moment) (verdict : Result Object Fault) → (verdict ≡ Err Memory) ⊎ (Ok laboratory ≡ verdict) → (verdict ≡ Err Memory) ⊎ ReadsAs source.Nothing shown name m m verdict
-nothing_read shown name m verdict (inl memory) = inl memory
-nothing_read shown name m verdict (inr is) = inr (record { prefix = itself name; read = (refl, refl); is = is; says = subst (λ (v : Result Object Fault). IfOk v (λ object. object ≡ laboratory)) is refl })
+pub nothing_read : (shown : Type 0) (name : List ℕ) (m : Moment) (result : Result Object Fault) → (result ≡ Err Memory) ⊎ (Ok laboratory ≡ result) → (result ≡ Err Memory) ⊎ ReadsAs source.Nothing shown name m m result
+nothing_read shown name m result (inl memory) = inl memory
+nothing_read shown name m result (inr is) = inr (record { prefix = itself name; read = (refl, refl); is = is; says = subst (λ (v : Result Object Fault). IfOk v (λ object. object ≡ laboratory)) is refl })
 
 -- ---- what is read of a later name
 
@@ -96,14 +96,14 @@ ok_is_err e = cc
 ok_is : {X Y : Type 0} {a b : X} → ◌≡◌ {A = Result X Y} (Ok a) (Ok b) → a ≡ b
 ok_is e = cc
 
--- a text that is judged to be a topology means it
+-- a text that is read as a topology means it
 text_ok : (meant : Result Topology TopologyError) (t : Topology) → topology_or_fault meant ≡ Ok t → meant ≡ Ok t
 text_ok (Ok c) t is = let same : c ≡ t = ok_is is in cc
 text_ok (Err (Bad fault)) t is = absurd (err_is_ok is)
 text_ok (Err (Rule fault)) t is = absurd (err_is_ok is)
 text_ok (Err (NoRoom starved)) t is = absurd (err_is_ok is)
 
-pub topology_ok : (stop : StopReason) (meant : Result Topology TopologyError) (t : Topology) → judged stop (topology_or_fault meant) ≡ Ok t → meant ≡ Ok t
+pub topology_ok : (stop : StopReason) (meant : Result Topology TopologyError) (t : Topology) → if_read stop (topology_or_fault meant) ≡ Ok t → meant ≡ Ok t
 topology_ok reason.End meant t is = text_ok meant t is
 topology_ok reason.Limit meant t is = text_ok meant t is
 topology_ok reason.Failure meant t is = absurd (err_is_ok is)
@@ -117,7 +117,7 @@ means_short text t long is = let test : nat_lt most_bytes (length text) ≡ true
 topology_end : (p : Prefix) (t : Topology) → HasSize topology_limit p.stop (length p.bytes) → topology_of p ≡ Ok t → p.stop ≡ reason.End
 topology_end p t size is = by p.stop size is
   where
-    by : (stop : StopReason) → HasSize topology_limit stop (length p.bytes) → judged stop (topology_or_fault (meaning p.bytes)) ≡ Ok t → stop ≡ reason.End
+    by : (stop : StopReason) → HasSize topology_limit stop (length p.bytes) → if_read stop (topology_or_fault (meaning p.bytes)) ≡ Ok t → stop ≡ reason.End
     by reason.End size is = refl
     by reason.Limit size is = let long : 1048576 < length p.bytes = omega arith in absurd (means_short p.bytes t long (topology_ok reason.Limit (meaning p.bytes) t is))
     by reason.Failure size is = absurd (err_is_ok is)
@@ -133,7 +133,7 @@ unread_in (Err (NoRoom starved)) is = cc
 pub text_unread : (p : Prefix) → topology_of p ≡ Err Read → IsUnread p.stop
 text_unread p is = by p.stop is
   where
-    by : (stop : StopReason) → judged stop (topology_or_fault (meaning p.bytes)) ≡ Err Read → IsUnread stop
+    by : (stop : StopReason) → if_read stop (topology_or_fault (meaning p.bytes)) ≡ Err Read → IsUnread stop
     by reason.End is = unread_in (meaning p.bytes) is
     by reason.Limit is = unread_in (meaning p.bytes) is
     by reason.Failure is = tt
@@ -172,6 +172,6 @@ module _ (shown : Type 0) (ws : List (List ℕ)) (before after : Moment) where
       (read.prefix.bytes, prefix_whole topology_limit (m.file (word k ws)) before.room read.prefix is end, topology_ok read.prefix.stop (meaning read.prefix.bytes) t read.is)
 
 -- without a word that names one it is the chip's
-pub chip_read : (shown : Type 0) (ws : List (List ℕ)) (m : Moment) (verdict : Result Topology Fault) → (verdict ≡ Err Memory) ⊎ (verdict ≡ Ok chip) → (verdict ≡ Err Memory) ⊎ ReadsTopology shown None ws m m verdict
-chip_read shown ws m verdict (inl memory) = inl memory
-chip_read shown ws m verdict (inr is) = inr (is, refl)
+pub chip_read : (shown : Type 0) (ws : List (List ℕ)) (m : Moment) (result : Result Topology Fault) → (result ≡ Err Memory) ⊎ (result ≡ Ok chip) → (result ≡ Err Memory) ⊎ ReadsTopology shown None ws m m result
+chip_read shown ws m result (inl memory) = inl memory
+chip_read shown ws m result (inr is) = inr (is, refl)

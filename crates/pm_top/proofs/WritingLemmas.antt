@@ -23,7 +23,7 @@ use Rattle.pm_top.specs.declared.reading.Subject.{Subject}
 use Rattle.pm_top.specs.declared.works.Form.{Form}
 use Rattle.pm_top.specs.declared.works.Source.{Source}
 use Rattle.pm_top.specs.declared.works.Source.TheVariants as source
-use Rattle.pm_top.specs.Asked.{Says, built_of, judged, object_by, object_limit, object_of, object_or_fault, text_limit, text_or_fault}
+use Rattle.pm_top.specs.Asked.{Says, built_of, if_read, object_by, object_limit, object_of, object_or_fault, text_limit, text_or_fault}
 use Rattle.pm_top.specs.Within.{ReadsSubject, Takes, one_piece}
 use Rattle.pm_top.specs.Words.{word}
 use Rattle.pm_top.proofs.SubjectLemmas.{err_is_ok, was_read}
@@ -41,7 +41,7 @@ too_long bytes o long is = let test : nat_lt 16384 (length bytes) ≡ true = lt-
 pub object_end : (p : Prefix) (o : Object) → HasSize object_limit p.stop (length p.bytes) → object_of p ≡ Ok o → p.stop ≡ reason.End
 object_end p o size is = by p.stop size is
   where
-    by : (stop : StopReason) → HasSize object_limit stop (length p.bytes) → judged stop (object_or_fault (reading p.bytes)) ≡ Ok o → stop ≡ reason.End
+    by : (stop : StopReason) → HasSize object_limit stop (length p.bytes) → if_read stop (object_or_fault (reading p.bytes)) ≡ Ok o → stop ≡ reason.End
     by reason.End size is = refl
     by reason.Limit size is = let read = object_ok (reading p.bytes) o is in absurd (too_long p.bytes read.0 (omega arith) read.1)
     by reason.Failure size is = absurd (err_is_ok is)
@@ -50,7 +50,7 @@ object_end p o size is = by p.stop size is
 pub text_end : (p : Prefix) (o : Object) → HasSize text_limit p.stop (length p.bytes) → Means p.bytes o → built_of p ≡ Ok o → p.stop ≡ reason.End
 text_end p o size means is = by p.stop size is
   where
-    by : (stop : StopReason) → HasSize text_limit stop (length p.bytes) → judged stop (text_or_fault (building p.bytes)) ≡ Ok o → stop ≡ reason.End
+    by : (stop : StopReason) → HasSize text_limit stop (length p.bytes) → if_read stop (text_or_fault (building p.bytes)) ≡ Ok o → stop ≡ reason.End
     by reason.End size is = refl
     by reason.Limit size is = let short : length p.bytes ≤ 1048576 = means.short in absurd (omega arith)
     by reason.Failure size is = absurd (err_is_ok is)

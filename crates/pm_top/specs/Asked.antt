@@ -64,24 +64,24 @@ topology_or_fault (Err (Bad fault)) = Err (TopologyText fault)
 topology_or_fault (Err (Rule fault)) = Err (BadTopology fault)
 topology_or_fault (Err (NoRoom starved)) = Err Memory
 
--- what was read to its end or past its limit is judged, and what could not be begun or read on is a fault
-abbrev pub judged : {T : Type 0} → StopReason → Result T Fault → Result T Fault
-judged End verdict = verdict
-judged Limit verdict = verdict
-judged Failure verdict = Err Read
-judged Unbegun verdict = Err Read
+-- this result, if it was read to its end or past its limit; an input that could not be begun or read on is a fault
+abbrev pub if_read : {T : Type 0} → StopReason → Result T Fault → Result T Fault
+if_read End result = result
+if_read Limit result = result
+if_read Failure result = Err Read
+if_read Unbegun result = Err Read
 
 -- the object that what was read of a name spells
 abbrev pub object_of : Prefix → Result Object Fault
-object_of p = judged p.stop (object_or_fault (reading p.bytes))
+object_of p = if_read p.stop (object_or_fault (reading p.bytes))
 
 -- the object that what was read of a name says as a text
 abbrev pub built_of : Prefix → Result Object Fault
-built_of p = judged p.stop (text_or_fault (building p.bytes))
+built_of p = if_read p.stop (text_or_fault (building p.bytes))
 
 -- the topology that what was read of a name means
 abbrev pub topology_of : Prefix → Result Topology Fault
-topology_of p = judged p.stop (topology_or_fault (meaning p.bytes))
+topology_of p = if_read p.stop (topology_or_fault (meaning p.bytes))
 
 -- ---- how many lines are asked for
 

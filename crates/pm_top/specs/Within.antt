@@ -36,46 +36,46 @@ Takes source.Text shown name before after prefix = ReadsPrefix shown name text_l
 Takes source.Number shown name before after prefix = (prefix ≡ itself name) × (before ≡ after)
 Takes source.Nothing shown name before after prefix = (prefix ≡ itself name) × (before ≡ after)
 
--- a name was taken and judged
-pub record ReadsAs (source : Source) (shown : Type 0) (name : List ℕ) (before after : Moment) (verdict : Result Object Fault) : Type 0 where
+-- a name was taken, and gives this object or fault
+pub record ReadsAs (source : Source) (shown : Type 0) (name : List ℕ) (before after : Moment) (result : Result Object Fault) : Type 0 where
   pub prefix : Prefix
   pub read : Takes source shown name before after prefix
-  pub is : object_by source prefix ≡ verdict
-  pub says : IfOk verdict (Says source prefix.bytes)
+  pub is : object_by source prefix ≡ result
+  pub says : IfOk result (Says source prefix.bytes)
 
 -- the text of a topology was read within its limit under a name
-pub record ReadsText (shown : Type 0) (name : List ℕ) (before after : Moment) (verdict : Result Topology Fault) : Type 0 where
+pub record ReadsText (shown : Type 0) (name : List ℕ) (before after : Moment) (result : Result Topology Fault) : Type 0 where
   pub prefix : Prefix
   pub read : ReadsPrefix shown name topology_limit before after prefix
-  pub is : topology_of prefix ≡ verdict
+  pub is : topology_of prefix ≡ result
 
 -- the same under the word at a place; without such a word the topology is the chip's, and nothing is read
 abbrev pub ReadsTopology : Type 0 → Option ℕ → List (List ℕ) → Moment → Moment → Result Topology Fault → Type 0
-ReadsTopology shown None ws before after verdict = (verdict ≡ Ok chip) × (before ≡ after)
-ReadsTopology shown (Some k) ws before after verdict = ReadsText shown (word k ws) before after verdict
+ReadsTopology shown None ws before after result = (result ≡ Ok chip) × (before ≡ after)
+ReadsTopology shown (Some k) ws before after result = ReadsText shown (word k ws) before after result
 
 -- the topology of a form was read after its object, and then the word that names a master
-pub record ReadsRest (shown : Type 0) (f : Form) (ws : List (List ℕ)) (object : Object) (before after : Moment) (verdict : Result Subject Fault) : Type 0 where
+pub record ReadsRest (shown : Type 0) (f : Form) (ws : List (List ℕ)) (object : Object) (before after : Moment) (result : Result Subject Fault) : Type 0 where
   pub topology : Result Topology Fault
   pub read : ReadsTopology shown f.topology ws before after topology
-  pub is : with_topology object topology (lines_by f.source (word 1 ws)) f.node ws ≡ verdict
-  pub supported : IfOk verdict (λ subject. IsSupported subject.topology)
+  pub is : with_topology object topology (lines_by f.source (word 1 ws)) f.node ws ≡ result
+  pub supported : IfOk result (λ subject. IsSupported subject.topology)
 
 -- what follows the object: nothing where it was refused
 abbrev pub ReadsThen : Type 0 → Form → List (List ℕ) → Moment → Moment → Result Object Fault → Result Topology Fault → Type 0
 ReadsThen shown f ws before after (Ok object) topology = ReadsTopology shown f.topology ws before after topology
 ReadsThen shown f ws before after (Err fault) topology = before ≡ after
 
--- the first name of a form was taken and judged, then its topology, and then the word that names a master
-pub record ReadsSubject (shown : Type 0) (f : Form) (ws : List (List ℕ)) (before after : Moment) (verdict : Result Subject Fault) : Type 0 where
+-- the first name of a form was taken, then its topology, and then the word that names a master
+pub record ReadsSubject (shown : Type 0) (f : Form) (ws : List (List ℕ)) (before after : Moment) (result : Result Subject Fault) : Type 0 where
   pub prefix : Prefix
   pub between : Moment
   pub topology : Result Topology Fault
   pub read : Takes f.source shown (word 1 ws) before between prefix
   pub rest : ReadsThen shown f ws between after (object_by f.source prefix) topology
-  pub is : subject_of f ws prefix topology ≡ verdict
-  pub says : IfOk verdict (λ subject. Says f.source prefix.bytes subject.object)
-  pub supported : IfOk verdict (λ subject. IsSupported subject.topology)
+  pub is : subject_of f ws prefix topology ≡ result
+  pub says : IfOk result (λ subject. Says f.source prefix.bytes subject.object)
+  pub supported : IfOk result (λ subject. IsSupported subject.topology)
 
 -- the master is one of the object
 abbrev pub IsNamed : Subject → Type 0

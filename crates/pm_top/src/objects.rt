@@ -40,12 +40,12 @@ pub(crate) fn read_object<I: Inputs>(
     };
     match prefix.stop() {
         StopReason::Failure | StopReason::Unbegun => Err(Fault::Read),
-        StopReason::End | StopReason::Limit => judge(alloc, prefix.bytes()),
+        StopReason::End | StopReason::Limit => object_from(alloc, prefix.bytes()),
     }
 }
 
 /// Reads an object from its bytes.
-fn judge(alloc: Global, bytes: &[u8]) -> Result<Object, Fault>
+fn object_from(alloc: Global, bytes: &[u8]) -> Result<Object, Fault>
     ensures exact { (result ≡ Err Fault.Memory) ⊎ (object_or_fault (reading bytes.now) ≡ result) }
     ensures reads { IfOk result (Reads bytes.now) }
     ensures formed { IfOk result IsObject }
@@ -74,12 +74,12 @@ pub(crate) fn read_text<I: Inputs>(
     };
     match prefix.stop() {
         StopReason::Failure | StopReason::Unbegun => Err(Fault::Read),
-        StopReason::End | StopReason::Limit => judge_text(alloc, prefix.bytes()),
+        StopReason::End | StopReason::Limit => object_from_text(alloc, prefix.bytes()),
     }
 }
 
 /// Reads an object from its text.
-fn judge_text(alloc: Global, text: &[u8]) -> Result<Object, Fault>
+fn object_from_text(alloc: Global, text: &[u8]) -> Result<Object, Fault>
     ensures exact { (result ≡ Err Fault.Memory) ⊎ (text_or_fault (building text.now) ≡ result) }
     ensures means { IfOk result (Means text.now) }
     ensures formed { IfOk result IsObject }

@@ -66,12 +66,12 @@ fn read_named<I: Inputs>(alloc: Global, inputs: &mut I, name: &str) -> Result<To
     };
     match prefix.stop() {
         StopReason::Failure | StopReason::Unbegun => Err(Fault::Read),
-        StopReason::End | StopReason::Limit => judge(alloc, prefix.bytes()),
+        StopReason::End | StopReason::Limit => topology_from(alloc, prefix.bytes()),
     }
 }
 
 /// Reads a topology from its text.
-fn judge(alloc: Global, text: &[u8]) -> Result<Topology, Fault>
+fn topology_from(alloc: Global, text: &[u8]) -> Result<Topology, Fault>
     ensures exact { (result ≡ Err Fault.Memory) ⊎ (topology_or_fault (meaning text.now) ≡ result) }
     ensures supported { IfOk result IsSupported }
 {

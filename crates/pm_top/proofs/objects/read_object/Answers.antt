@@ -27,5 +27,5 @@ returns-clause-begun g c =
       | inl is ↦ subst S (sym c.stop.ensures ∙ is) c.in-Ok.ensures.calls
       | inr is ↦ subst S (sym c.stop.ensures ∙ is) c.in-Ok.ensures.calls
     ] in
-    meanwhile_map old new (ReadsEach names) (ReadsFor c.judge.result names)
-    (λ (calls : List Call) reads. object_for names calls reads c.judge.result (reading c.bytes.result.now) c.judge.ensures.exact) whole
+    meanwhile_map old new (ReadsEach names) (ReadsFor c.object_from.result names)
+    (λ (calls : List Call) reads. object_for names calls reads c.object_from.result (reading c.bytes.result.now) c.object_from.ensures.exact) whole

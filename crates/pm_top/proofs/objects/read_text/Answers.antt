@@ -27,5 +27,5 @@ returns-clause-begun g c =
       | inl is ↦ subst S (sym c.stop.ensures ∙ is) c.in-Ok.ensures.calls
       | inr is ↦ subst S (sym c.stop.ensures ∙ is) c.in-Ok.ensures.calls
     ] in
-    meanwhile_map old new (ReadsEach names) (ReadsFor c.judge_text.result names)
-    (λ (calls : List Call) reads. text_for names calls reads c.judge_text.result (building c.bytes.result.now) c.judge_text.ensures.exact) whole
+    meanwhile_map old new (ReadsEach names) (ReadsFor c.object_from_text.result names)
+    (λ (calls : List Call) reads. text_for names calls reads c.object_from_text.result (building c.bytes.result.now) c.object_from_text.ensures.exact) whole

@@ -27,5 +27,5 @@ returns-clause-begun g c =
       | inl is ↦ subst S (sym c.stop.ensures ∙ is) c.in-Ok.ensures.calls
       | inr is ↦ subst S (sym c.stop.ensures ∙ is) c.in-Ok.ensures.calls
     ] in
-    meanwhile_map old new (ReadsEach names) (ReadsFor c.judge.result names)
-    (λ (calls : List Call) reads. topology_for names calls reads c.judge.result (meaning c.bytes.result.now) c.judge.ensures.exact) whole
+    meanwhile_map old new (ReadsEach names) (ReadsFor c.topology_from.result names)
+    (λ (calls : List Call) reads. topology_for names calls reads c.topology_from.result (meaning c.bytes.result.now) c.topology_from.ensures.exact) whole
