@@ -24,13 +24,13 @@ use Rattle.pm_trace.specs.Line.{numbers}
 use Rattle.pm_trace.specs.Notes.{note_words}
 use Rattle.pm_trace.specs.Step.{command_name, step_words}
 use Rattle.pm_drive.specs.Drive.{Driven, Given, drive_line, driven, give, until}
-use Rattle.pm_drive.specs.Heard.{heard_in}
+use Rattle.pm_drive.specs.Completed.{completed_in}
 use Rattle.pm_drive.specs.Text.{notes_of, reply_after}
 use Rattle.pm_apart.specs.Lines.{given_lines, note_lines, numbered, step_lines}
 use Rattle.pm_apart.specs.Telling.{tells_busy}
 use Rattle.pm_apart.proofs.Cuts.{both_map}
 use Rattle.pm_apart.proofs.FoundLemmas.{IsFound, LineFinds, runs_found}
-use Rattle.pm_apart.proofs.HeardLaw.{IsDeaf, boards_alike}
+use Rattle.pm_apart.proofs.CompletedLaw.{IsDeaf, boards_alike}
 use Rattle.pm_apart.proofs.TextsLaw.{none_given}
 
 module _ (m : NodeId) where
@@ -108,8 +108,8 @@ module _ (m : NodeId) where
 
 pub busy_apart : (c : Setup) (m : NodeId) (events : List Event) → AreWorldsAlike c m events
     → (board other : Standing) (answers others : List (List Bool)) (cut : Option ℕ)
-    → filter (tells_busy m) (step_lines 0 (heard_in c board (until cut (driven c answers events))))
-    ≡ filter (tells_busy m) (step_lines 0 (heard_in c other (until cut (driven c others (quiet m events)))))
+    → filter (tells_busy m) (step_lines 0 (completed_in c board (until cut (driven c answers events))))
+    ≡ filter (tells_busy m) (step_lines 0 (completed_in c other (until cut (driven c others (quiet m events)))))
 busy_apart c m events alike board other answers others cut =
     boards_alike (tells_busy m) (busy_is_deaf m) c board other (until cut (driven c answers events)) (until cut (driven c others (quiet m events)))
     (runs_found (tells_busy m) (busy_lines m) (line_busy m) c m events answers others cut

@@ -3,7 +3,7 @@ pub mod Cuts
 pub mod DropFacts
 pub mod FilterLemmas
 pub mod FoundLemmas
-pub mod HeardLaw
+pub mod CompletedLaw
 pub mod LineCommands
 pub mod LinesLaw
 pub mod NodeCommands

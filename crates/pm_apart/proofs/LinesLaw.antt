@@ -18,13 +18,13 @@ use Rattle.pm_trace.specs.declared.step.StepLine.TheVariants as told
 use Rattle.pm_trace.specs.Step.{step_words}
 use Rattle.pm_drive.specs.Drive.{Driven, drive, driven, last_book, last_kept, until}
 use Rattle.pm_drive.specs.Clocks.{first_tree, last_tree}
-use Rattle.pm_drive.specs.Heard.{heard_in}
+use Rattle.pm_drive.specs.Completed.{completed_in}
 use Rattle.pm_drive.proofs.DroveLaw.{lines-driven, until-drive}
 use Rattle.pm_apart.specs.Apart.{AreDrivenAlike, IsDrivenAlike, IsOutOfReach, StaysApart, StepsStayApart}
 use Rattle.pm_apart.specs.Lines.{clock_lines, closing_line_of, commands_on, is_about, numbered, run_lines, set_lines, step_lines, table_lines}
 use Rattle.pm_apart.proofs.Cuts.{until_both}
 use Rattle.pm_apart.proofs.FilterLemmas.{parts_alike}
-use Rattle.pm_apart.proofs.HeardLaw.{about_is_deaf, boards_alike}
+use Rattle.pm_apart.proofs.CompletedLaw.{about_is_deaf, boards_alike}
 use Rattle.pm_apart.proofs.RunsLaw.{ReachLaws, runs_alike}
 use Rattle.pm_apart.proofs.TablesLaw.{clocks_apart, line_same, table_same}
 use Rattle.pm_apart.proofs.TextsLaw.{lines_about}
@@ -67,7 +67,7 @@ module _ (laws : ReachLaws) (c : Setup) (m : NodeId) (events : List Event) (u : 
 
   -- so with any two boards
   pub steps_apart : (board other : Standing) (cut : Option ℕ)
-      → filter (is_about u) (step_lines 0 (heard_in c board (until cut loud))) ≡ filter (is_about u) (step_lines 0 (heard_in c other (until cut still)))
+      → filter (is_about u) (step_lines 0 (completed_in c board (until cut loud))) ≡ filter (is_about u) (step_lines 0 (completed_in c other (until cut still)))
   steps_apart board other cut = boards_alike (is_about u) (about_is_deaf u) c board other (until cut loud) (until cut still) (book_steps_apart cut)
 
   -- of the closing tables
@@ -82,7 +82,7 @@ module _ (laws : ReachLaws) (c : Setup) (m : NodeId) (events : List Event) (u : 
 
   pub run_apart : (board other : Standing) → filter (is_about u) (run_lines c board [] events) ≡ filter (is_about u) (run_lines c other [] (quiet m events))
   run_apart board other =
-      parts_alike (is_about u) (step_lines 0 (heard_in c board loud)) (table_lines c loud) (step_lines 0 (heard_in c other still)) (table_lines c still)
+      parts_alike (is_about u) (step_lines 0 (completed_in c board loud)) (table_lines c loud) (step_lines 0 (completed_in c other still)) (table_lines c still)
       (steps_apart board other None)
       tables_apart
 
@@ -106,10 +106,10 @@ unfailing_run c answers events cut is =
 pub run_by : (c : Setup) (answers : List (List Bool)) (events : List Event) → FollowsUntil c answers events None
     → StaysApart c [] events → StaysApart c answers events
 run_by c answers events is apart board other m unit beyond =
-    ap (λ xs. filter (is_about unit) (step_lines 0 (heard_in c board xs) ++ table_lines c xs)) (unfailing_run c answers events None is)
+    ap (λ xs. filter (is_about unit) (step_lines 0 (completed_in c board xs) ++ table_lines c xs)) (unfailing_run c answers events None is)
     ∙ apart board other m unit beyond
 
 pub steps_by : (c : Setup) (answers : List (List Bool)) (events : List Event) (cut : Option ℕ) → FollowsUntil c answers events cut
     → StepsStayApart c [] events cut → StepsStayApart c answers events cut
 steps_by c answers events cut is apart board other m unit beyond =
-    ap (λ xs. filter (is_about unit) (step_lines 0 (heard_in c board xs))) (unfailing_run c answers events cut is) ∙ apart board other m unit beyond
+    ap (λ xs. filter (is_about unit) (step_lines 0 (completed_in c board xs))) (unfailing_run c answers events cut is) ∙ apart board other m unit beyond

@@ -32,7 +32,7 @@ use Rattle.pm_trace.specs.Line.{numbers}
 use Rattle.pm_trace.specs.Step.{command_name, step_words}
 use Rattle.pm_drive.specs.Drive.{Driven, Given, answers_after, drive, drive_line, driven, until}
 use Rattle.pm_drive.specs.Clocks.{clock_note, clock_notes, clocked_by, clocked_line, first_tree, tree_along, turned}
-use Rattle.pm_drive.specs.Heard.{heard_by, heard_cores, heard_in, heard_line}
+use Rattle.pm_drive.specs.Completed.{completed_by, completed_cores, completed_in, completed_line}
 use Rattle.pm_drive.specs.Tasks.{fired_note, key_notes, refusal_notes, task_notes}
 use Rattle.pm_drive.specs.Text.{notes_of, reply_after}
 use Rattle.pm_drive.proofs.DroveLaw.{until-drive}
@@ -40,7 +40,7 @@ use Rattle.pm_apart.specs.Lines.{driven_lines, given_lines, note_lines, numbered
 use Rattle.pm_apart.specs.Telling.{tells_task}
 use Rattle.pm_apart.proofs.Cuts.{until_both, until_each}
 use Rattle.pm_apart.proofs.FilterLemmas.{none_after}
-use Rattle.pm_apart.proofs.HeardLaw.{noted_line}
+use Rattle.pm_apart.proofs.CompletedLaw.{noted_line}
 use Rattle.pm_apart.proofs.OwnNotesLemmas.{OwnNotes, runs_are as own_notes_are}
 use Rattle.pm_apart.proofs.TextsLaw.{none_given}
 
@@ -142,14 +142,14 @@ module _ (n : ℕ) where
 
   -- so those of a line tell what happens to tasks in it
   line_found : (board : Standing) (x : Driven) → HasOthers x.line
-      → filter tells_task (driven_lines n (heard_line board x)) ≡ note_lines n (task_notes x.line.event board.tasks)
+      → filter tells_task (driven_lines n (completed_line board x)) ≡ note_lines n (task_notes x.line.event board.tasks)
   line_found board x own =
       let t : Topology = x.line.after.book.fixed.topology in
       let event : Event = x.line.event in
-      let given : List Given = heard_cores board.modules x.cores in
+      let given : List Given = completed_cores board.modules x.cores in
       let tasks : List Note = task_notes event board.tasks in
       let reply : Option Response = reply_after None given in
-      let notes : List Note = notes_of (heard_line board x) in
+      let notes : List Note = notes_of (completed_line board x) in
       filter-append tells_task (flat_map (given_lines n) given) (note_lines n notes)
       ∙ (ap (λ lines. lines ++ filter tells_task (note_lines n notes)) (none_given tells_task no_line n given)
       ∙ (none_after tells_task (noted_line n) (x.line.notes ++ tasks) (called_note t event reply) (none_called t event reply)
@@ -164,7 +164,7 @@ told_of_tasks n t [] = []
 told_of_tasks n t (line ∷ lines) = note_lines n (task_notes line.event t) ++ told_of_tasks (n + 1) (settled (begun line.event (settled t))) lines
 
 lines_found : (n : ℕ) (board : Standing) (tree : Tree) (lines : List ScriptLine) (kept : Kept) (answers : List (List Bool)) → Each HasOthers lines
-    → filter tells_task (step_lines n (heard_by board (clocked_by tree (drive kept answers lines)))) ≡ told_of_tasks n board.tasks lines
+    → filter tells_task (step_lines n (completed_by board (clocked_by tree (drive kept answers lines)))) ≡ told_of_tasks n board.tasks lines
 lines_found n board tree [] kept answers own = refl
 lines_found n board tree (line ∷ lines) kept answers own =
     let x : Driven = drive_line kept answers line in
@@ -175,14 +175,14 @@ lines_found n board tree (line ∷ lines) kept answers own =
     let others : HasOthers (clocked_line tree x).line =
     each_joined IsOther line.notes (clock_notes tree x.cores) own.0 (clocks_are tree x.cores)
     in
-    filter-append tells_task (driven_lines n (heard_line board (clocked_line tree x))) (step_lines (n + 1) (heard_by after later))
-    ∙ (ap (λ found. found ++ filter tells_task (step_lines (n + 1) (heard_by after later))) (line_found n board (clocked_line tree x) others)
+    filter-append tells_task (driven_lines n (completed_line board (clocked_line tree x))) (step_lines (n + 1) (completed_by after later))
+    ∙ (ap (λ found. found ++ filter tells_task (step_lines (n + 1) (completed_by after later))) (line_found n board (clocked_line tree x) others)
     ∙ ap (λ found. here ++ found) (lines_found (n + 1) after next lines x.kept (answers_after line.cores answers) own.1))
 
 run_found : (c : Setup) (board : Standing) (answers : List (List Bool)) (events : List Event) (cut : Option ℕ)
-    → filter tells_task (step_lines 0 (heard_in c board (until cut (driven c answers events)))) ≡ told_of_tasks 0 board.tasks (until cut (run c events))
+    → filter tells_task (step_lines 0 (completed_in c board (until cut (driven c answers events)))) ≡ told_of_tasks 0 board.tasks (until cut (run c events))
 run_found c board answers events cut =
-    ap (λ xs. filter tells_task (step_lines 0 (heard_in c board xs))) (until-drive cut (run c events) (at_zero c.topology) answers)
+    ap (λ xs. filter tells_task (step_lines 0 (completed_in c board xs))) (until-drive cut (run c events) (at_zero c.topology) answers)
     ∙ lines_found 0 board (first_tree c) (until cut (run c events)) (at_zero c.topology) answers (until_each HasOthers cut (run c events) (runs_are c events))
 
 -- ---- in two runs
@@ -235,8 +235,8 @@ told_alike n t (x ∷ xs) (y ∷ ys) both =
 
 pub tasks_apart : (c : Setup) (m : NodeId) (events : List Event) (board other : Standing) → board.tasks ≡ other.tasks
     → (answers others : List (List Bool)) (cut : Option ℕ)
-    → filter tells_task (step_lines 0 (heard_in c board (until cut (driven c answers events))))
-    ≡ filter tells_task (step_lines 0 (heard_in c other (until cut (driven c others (quiet m events)))))
+    → filter tells_task (step_lines 0 (completed_in c board (until cut (driven c answers events))))
+    ≡ filter tells_task (step_lines 0 (completed_in c other (until cut (driven c others (quiet m events)))))
 tasks_apart c m events board other same answers others cut =
     run_found c board answers events cut
     ∙ (ap (λ t. told_of_tasks 0 t (until cut (run c events))) same

@@ -43,7 +43,7 @@ use Rattle.pm_trace.specs.Line.{numbers}
 use Rattle.pm_trace.specs.Notes.{note_words}
 use Rattle.pm_trace.specs.Step.{acknowledgement, answer_line, command_name, late_line, notices_of, told_lines, step_words}
 use Rattle.pm_drive.specs.Drive.{Given, drive_line, driven, first_answers, give, later_answers, until}
-use Rattle.pm_drive.specs.Heard.{heard_in}
+use Rattle.pm_drive.specs.Completed.{completed_in}
 use Rattle.pm_drive.specs.Text.{notes_of}
 use Rattle.pm_drive.specs.Drove.{IsTold}
 use Rattle.pm_apart.specs.Lines.{given_lines, note_lines, numbered, step_lines}
@@ -53,7 +53,7 @@ use Rattle.pm_apart.proofs.Cuts.{both_map}
 use Rattle.pm_apart.proofs.DropFacts.{Drops}
 use Rattle.pm_apart.proofs.FilterLemmas.{filter_made, kept_in, left_out}
 use Rattle.pm_apart.proofs.FoundLemmas.{IsFound, LineFinds, runs_found}
-use Rattle.pm_apart.proofs.HeardLaw.{IsDeaf, boards_alike}
+use Rattle.pm_apart.proofs.CompletedLaw.{IsDeaf, boards_alike}
 use Rattle.pm_apart.proofs.TasksLaw.{tasks_apart}
 use Rattle.pm_apart.proofs.TurnsLaw.{turns_apart}
 use Rattle.pm_apart.proofs.TextsLaw.{made_twice, none_made}
@@ -382,8 +382,8 @@ module _ (c : Setup) (m : NodeId) (events : List Event) (alike : AreWorldsAlike 
   found_apart : {X : Type 0} (what : Tells) (f : Core → List X) (G : List X → List StepLine) → G [] ≡ [] → ((xs ys : List X) → G (xs ++ ys) ≡ G xs ++ G ys)
       → ((x y : ScriptLine) → IsLineAlike c m x y → flat_map f x.cores ≡ flat_map f y.cores) → Finds (tells what) (λ core. G (f core)) (no_note what)
       → (board other : Standing) (answers others : List (List Bool)) (cut : Option ℕ)
-      → filter (tells what) (step_lines 0 (heard_in c board (until cut (driven c answers events))))
-      ≡ filter (tells what) (step_lines 0 (heard_in c other (until cut (driven c others (quiet m events)))))
+      → filter (tells what) (step_lines 0 (completed_in c board (until cut (driven c answers events))))
+      ≡ filter (tells what) (step_lines 0 (completed_in c other (until cut (driven c others (quiet m events)))))
   found_apart what f G none parts same finds board other answers others cut =
       let found : ℕ → ScriptLine → List (List Word) = lines_found (tells what) (λ core. G (f core)) (no_note what) in
       boards_alike (tells what) (is_deaf what) c board other (until cut (driven c answers events)) (until cut (driven c others (quiet m events)))

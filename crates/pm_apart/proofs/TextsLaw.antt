@@ -35,7 +35,7 @@ use Rattle.pm_trace.specs.Notes.{note_line, note_words, notes_text}
 use Rattle.pm_trace.specs.Step.{Notices, answer_line, command_name, core_text, late_line, notices_of, numbered_line, output_words, told_lines, step_words}
 use Rattle.pm_drive.specs.Drive.{Driven, Given, driven, last_book, last_kept}
 use Rattle.pm_drive.specs.Clocks.{end_line, ends_text, first_tree, last_tree, table_text}
-use Rattle.pm_drive.specs.Heard.{heard_in}
+use Rattle.pm_drive.specs.Completed.{completed_in}
 use Rattle.pm_drive.specs.Text.{driven_text, given_text, notes_of, run_text, texts}
 use Rattle.pm_apart.specs.Lines.{clock_lines, closing_line, commands_of, commands_on, driven_lines, end_words, given_lines, is_about, is_on, note_lines, numbered, run_lines, set_lines, step_lines, table_lines}
 use Rattle.pm_apart.proofs.FilterLemmas.{filter_made, left_out, none_of_both}
@@ -103,7 +103,7 @@ pub run_is : (c : Setup) (board : Standing) (answers : List (List Bool)) (events
     → run_text c board answers events ≡ text_of (run_lines c board answers events)
 run_is c board answers events =
     let xs : List Driven = driven c answers events in
-    let ys : List Driven = heard_in c board xs in
+    let ys : List Driven = completed_in c board xs in
     let book : State = last_book (load_of c.object c.attached c.topology) xs in
     let kept : Kept = last_kept (at_zero c.topology) xs in
     let tree : Tree = last_tree (first_tree c) xs in

@@ -37,7 +37,7 @@ use Rattle.pm_trace.specs.Line.{numbers}
 use Rattle.pm_trace.specs.Step.{command_name, step_words}
 use Rattle.pm_drive.specs.Clocks.{clock_note, clock_notes, clocked_by, clocked_cores, clocked_line, first_tree, tree_after_core, tree_along}
 use Rattle.pm_drive.specs.Drive.{Driven, Given, answers_after, drive, drive_line, driven, first_answers, give, later_answers, until}
-use Rattle.pm_drive.specs.Heard.{heard_by, heard_cores, heard_in, heard_line}
+use Rattle.pm_drive.specs.Completed.{completed_by, completed_cores, completed_in, completed_line}
 use Rattle.pm_drive.specs.Tasks.{task_notes}
 use Rattle.pm_drive.specs.Text.{notes_of, reply_after}
 use Rattle.pm_drive.proofs.DroveLaw.{until-drive}
@@ -45,7 +45,7 @@ use Rattle.pm_apart.specs.Lines.{driven_lines, given_lines, note_lines, numbered
 use Rattle.pm_apart.specs.Telling.{tells_clock}
 use Rattle.pm_apart.proofs.Cuts.{both_map, until_each}
 use Rattle.pm_apart.proofs.FilterLemmas.{left_out, none_after, parts_alike}
-use Rattle.pm_apart.proofs.HeardLaw.{noted_line}
+use Rattle.pm_apart.proofs.CompletedLaw.{noted_line}
 use Rattle.pm_apart.proofs.OwnNotesLemmas.{OwnNotes, runs_are as own_notes_are}
 use Rattle.pm_apart.proofs.TasksLaw.{IsOfTask, tasks_are}
 use Rattle.pm_apart.proofs.TextsLaw.{none_given}
@@ -131,14 +131,14 @@ module _ (number : ℕ) where
 
     -- of the lines of a script line those of the clock are among those of its clocks
     line_found : (board : Standing) (tree : Tree) (x : Driven) → HasOwn x.line
-        → filter (tells_clock number) (driven_lines n (heard_line board (clocked_line tree x))) ≡ filter (tells_clock number) (note_lines n (clock_notes tree x.cores))
+        → filter (tells_clock number) (driven_lines n (completed_line board (clocked_line tree x))) ≡ filter (tells_clock number) (note_lines n (clock_notes tree x.cores))
     line_found board tree x own =
         let event : Event = x.line.event in
-        let given : List Given = heard_cores board.modules (clocked_cores tree x.cores) in
+        let given : List Given = completed_cores board.modules (clocked_cores tree x.cores) in
         let turned : List Note = clock_notes tree x.cores in
         let tasks : List Note = task_notes event board.tasks in
         let reply : Option Response = reply_after None given in
-        let notes : List Note = notes_of (heard_line board (clocked_line tree x)) in
+        let notes : List Note = notes_of (completed_line board (clocked_line tree x)) in
         filter-append (tells_clock number) (flat_map (given_lines n) given) (note_lines n notes)
         ∙ (ap (λ lines. lines ++ filter (tells_clock number) (note_lines n notes)) (none_given (tells_clock number) no_line n given)
         ∙ (none_after (tells_clock number) (noted_line n) ((x.line.notes ++ turned) ++ tasks) (called_note x.line.after.book.fixed.topology event reply)
@@ -207,8 +207,8 @@ module _ (number : ℕ) where
 
   lines_alike : (n : ℕ) (board other : Standing) (s t : Tree) (xs ys : List ScriptLine) (kept rest : Kept) (answers others : List (List Bool))
       → Each HasOwn xs → Each HasOwn ys → Both TurnAlike (turns s xs) (turns t ys)
-      → filter (tells_clock number) (step_lines n (heard_by board (clocked_by s (drive kept answers xs))))
-      ≡ filter (tells_clock number) (step_lines n (heard_by other (clocked_by t (drive rest others ys))))
+      → filter (tells_clock number) (step_lines n (completed_by board (clocked_by s (drive kept answers xs))))
+      ≡ filter (tells_clock number) (step_lines n (completed_by other (clocked_by t (drive rest others ys))))
   lines_alike n board other s t [] [] kept rest answers others own its both = refl
   lines_alike n board other s t [] (y ∷ ys) kept rest answers others own its both = absurd both
   lines_alike n board other s t (x ∷ xs) [] kept rest answers others own its both = absurd both
@@ -219,12 +219,12 @@ module _ (number : ℕ) where
       let later_y : List Driven = drive dy.kept (answers_after y.cores others) ys in
       let board_x : Standing = board_after x.event board in
       let board_y : Standing = board_after y.event other in
-      let told_x : Tree → List (List Word) = λ tree. filter (tells_clock number) (step_lines (n + 1) (heard_by board_x (clocked_by tree later_x))) in
-      let told_y : Tree → List (List Word) = λ tree. filter (tells_clock number) (step_lines (n + 1) (heard_by board_y (clocked_by tree later_y))) in
+      let told_x : Tree → List (List Word) = λ tree. filter (tells_clock number) (step_lines (n + 1) (completed_by board_x (clocked_by tree later_x))) in
+      let told_y : Tree → List (List Word) = λ tree. filter (tells_clock number) (step_lines (n + 1) (completed_by board_y (clocked_by tree later_y))) in
       let turn_x : Tree → Option ClockChange = λ tree. change_at number (record { tree = tree; told = running s }) in
       let turn_y : Tree → Option ClockChange = λ tree. change_at number (record { tree = tree; told = running t }) in
-      parts_alike (tells_clock number) (driven_lines n (heard_line board (clocked_line s dx))) (step_lines (n + 1) (heard_by board_x (clocked_by (tree_along dx.cores s) later_x)))
-      (driven_lines n (heard_line other (clocked_line t dy))) (step_lines (n + 1) (heard_by board_y (clocked_by (tree_along dy.cores t) later_y)))
+      parts_alike (tells_clock number) (driven_lines n (completed_line board (clocked_line s dx))) (step_lines (n + 1) (completed_by board_x (clocked_by (tree_along dx.cores s) later_x)))
+      (driven_lines n (completed_line other (clocked_line t dy))) (step_lines (n + 1) (completed_by board_y (clocked_by (tree_along dy.cores t) later_y)))
       (line_found n board s dx own.0
       ∙ (all_alike n (record { tree = tree_along dx.cores s; told = running s }) (record { tree = tree_along dy.cores t; told = running t })
       (ap turn_x (same_along kept answers x.cores s) ∙ (both.0 ∙ sym (ap turn_y (same_along rest others y.cores t)))) clocks
@@ -237,15 +237,15 @@ module _ (number : ℕ) where
   pub turns_apart : (c : Setup) (m : NodeId) (events : List Event) → AreClocksAlike c m events
       → IsClockBeyond (fixed_of c) (border_of (fixed_of c) m) number
       → (board other : Standing) (answers others : List (List Bool)) (cut : Option ℕ)
-      → filter (tells_clock number) (step_lines 0 (heard_in c board (until cut (driven c answers events))))
-      ≡ filter (tells_clock number) (step_lines 0 (heard_in c other (until cut (driven c others (quiet m events)))))
+      → filter (tells_clock number) (step_lines 0 (completed_in c board (until cut (driven c answers events))))
+      ≡ filter (tells_clock number) (step_lines 0 (completed_in c other (until cut (driven c others (quiet m events)))))
   turns_apart c m events alike beyond board other answers others cut =
       let lines : List ScriptLine = run c events in
       let silent : List ScriptLine = run c (quiet m events) in
-      ap (λ xs. filter (tells_clock number) (step_lines 0 (heard_in c board xs))) (until-drive cut lines (at_zero c.topology) answers)
+      ap (λ xs. filter (tells_clock number) (step_lines 0 (completed_in c board xs))) (until-drive cut lines (at_zero c.topology) answers)
       ∙ (lines_alike 0 board other (first_tree c) (first_tree c) (until cut lines) (until cut silent) (at_zero c.topology) (at_zero c.topology) answers others
       (until_each HasOwn cut lines (runs_are c events)) (until_each HasOwn cut silent (runs_are c (quiet m events)))
       (until_taken TurnAlike cut (first_tree c) (first_tree c) lines silent
       (both_map (IsClockAlike (fixed_of c) (border_of (fixed_of c) m)) TurnAlike (λ x y same. same.turns number beyond)
       (turns (first_tree c) lines) (turns (first_tree c) silent) alike))
-      ∙ sym (ap (λ xs. filter (tells_clock number) (step_lines 0 (heard_in c other xs))) (until-drive cut silent (at_zero c.topology) others)))
+      ∙ sym (ap (λ xs. filter (tells_clock number) (step_lines 0 (completed_in c other xs))) (until-drive cut silent (at_zero c.topology) others)))

@@ -25,10 +25,10 @@ use Rattle.pm_state.specs.Values.{shown}
 use Rattle.pm_trace.specs.Line.{numbers}
 use Rattle.pm_drive.specs.Drive.{Driven, answers_after, drive, drive_line, driven, last_book, last_kept}
 use Rattle.pm_drive.specs.Clocks.{first_tree, last_tree}
-use Rattle.pm_drive.specs.Heard.{heard_in}
+use Rattle.pm_drive.specs.Completed.{completed_in}
 use Rattle.pm_apart.specs.Lines.{clock_lines, closing_line, closing_line_of, is_about, run_lines, set_lines, step_lines, table_lines}
 use Rattle.pm_apart.proofs.FilterLemmas.{kept_in, none_of_both}
-use Rattle.pm_apart.proofs.HeardLaw.{about_is_deaf, heard_alike}
+use Rattle.pm_apart.proofs.CompletedLaw.{about_is_deaf, completed_alike}
 use Rattle.pm_apart.proofs.TablesLaw.{clocks_apart, end_about, other_line}
 use Rattle.pm_apart.proofs.TextsLaw.{lines_about}
 
@@ -110,7 +110,7 @@ module _ (units : UnitLaws) (c : Setup) (load : IsBookOf c (loaded c).book) (aft
       ≡ set_lines u 0 (driven c answers events) ++ closing_line_of c (driven c answers events) u
   whole_about board answers events u has =
       let xs : List Driven = driven c answers events in
-      let ys : List Driven = heard_in c board xs in
+      let ys : List Driven = completed_in c board xs in
       let book : State = last_book (load_of c.object c.attached c.topology) xs in
       let kept : Kept = last_kept (at_zero c.topology) xs in
       let is : IsBookOf c book =
@@ -125,5 +125,5 @@ module _ (units : UnitLaws) (c : Setup) (load : IsBookOf c (loaded c).book) (aft
       ∙ (append-nil (filter (is_about u) own) ∙ table_about units book kept u there))
       in
       filter-append (is_about u) (step_lines 0 ys) (table_lines c xs)
-      ∙ (ap (λ lines. lines ++ filter (is_about u) (table_lines c xs)) (heard_alike (is_about u) (about_is_deaf u) c board xs ∙ lines_about u 0 xs)
+      ∙ (ap (λ lines. lines ++ filter (is_about u) (table_lines c xs)) (completed_alike (is_about u) (about_is_deaf u) c board xs ∙ lines_about u 0 xs)
       ∙ ap (λ lines. set_lines u 0 xs ++ lines) table)

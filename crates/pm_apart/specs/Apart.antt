@@ -16,7 +16,7 @@ use Rattle.pm_laws.specs.Worlds.{AreWorldsAlike, AreWorldsBeside}
 use Rattle.pm_trace.specs.Line.{line_text}
 use Rattle.pm_drive.specs.Drive.{Driven, driven, until}
 use Rattle.pm_drive.specs.Drove.{NoFailure}
-use Rattle.pm_drive.specs.Heard.{heard_in}
+use Rattle.pm_drive.specs.Completed.{completed_in}
 use Rattle.pm_drive.specs.Text.{run_text, texts}
 use Rattle.pm_apart.specs.Lines.{commands_on, is_about, run_lines, step_lines}
 use Rattle.pm_apart.specs.Telling.{TellsApart}
@@ -47,8 +47,8 @@ StaysApart c answers events =
 abbrev pub StepsStayApart : Setup → List (List Bool) → List Event → Option ℕ → Type 0
 StepsStayApart c answers events cut =
     (board other : Standing) (m : NodeId) (unit : Unit) → IsOutOfReach c m unit
-    → filter (is_about unit) (step_lines 0 (heard_in c board (until cut (driven c answers events))))
-    ≡ filter (is_about unit) (step_lines 0 (heard_in c other (until cut (driven c [] (quiet m events)))))
+    → filter (is_about unit) (step_lines 0 (completed_in c board (until cut (driven c answers events))))
+    ≡ filter (is_about unit) (step_lines 0 (completed_in c other (until cut (driven c [] (quiet m events)))))
 
 -- beyond the reach of a master the run of these events is as the run without its messages. No device occurs in it. The core steps
 -- of the two are beside one another, line by line: what is in both tells the same there, and what is in one alone, which is a
@@ -75,8 +75,8 @@ module _ {D : Type 0} (d : Device.Ghosts D) where
 
   -- the same of its script lines alone, up to that within whose text it breaks off, if it does
   pub record StepsKeepApart (c : Setup) (answers : List (List Bool)) (events : List Event) (cut : Option ℕ) (old new : D) : Type 0 where
-    pub lines : (board : Standing) → concat (texts 0 (heard_in c board (until cut (driven c answers events))))
-        ≡ concat (map line_text (step_lines 0 (heard_in c board (until cut (driven c answers events)))))
+    pub lines : (board : Standing) → concat (texts 0 (completed_in c board (until cut (driven c answers events))))
+        ≡ concat (map line_text (step_lines 0 (completed_in c board (until cut (driven c answers events)))))
     pub apart : NoFailure d c.topology (until cut (driven c answers events)) old new → StepsStayApart c answers events cut
     pub beyond : (m : NodeId) → BooksStayApart c events m
     pub telling : (m : NodeId) → TellsApart c events m

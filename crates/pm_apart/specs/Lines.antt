@@ -29,7 +29,7 @@ use Rattle.pm_trace.specs.Notes.{note_words}
 use Rattle.pm_trace.specs.Step.{notices_of, output_words, step_words}
 use Rattle.pm_drive.specs.Drive.{Driven, Given, driven, last_book, last_kept}
 use Rattle.pm_drive.specs.Clocks.{first_tree, last_tree}
-use Rattle.pm_drive.specs.Heard.{heard_in}
+use Rattle.pm_drive.specs.Completed.{completed_in}
 use Rattle.pm_drive.specs.Text.{notes_of}
 
 -- ---- the lines of a run
@@ -85,7 +85,7 @@ table_lines c xs =
 
 -- all lines of a run that begins with a board, over a device with these answers
 abbrev pub run_lines : Setup → Standing → List (List Bool) → List Event → List (List Word)
-run_lines c board answers events = step_lines 0 (heard_in c board (driven c answers events)) ++ table_lines c (driven c answers events)
+run_lines c board answers events = step_lines 0 (completed_in c board (driven c answers events)) ++ table_lines c (driven c answers events)
 
 -- ---- the lines about a unit
 

@@ -18,7 +18,7 @@ use Rattle.pm_clock_laws.specs.Reach.{IsClockBeyond}
 use Rattle.pm_trace.specs.declared.line.Word.{Word}
 use Rattle.pm_trace.specs.declared.line.Word.TheVariants as word
 use Rattle.pm_drive.specs.Drive.{driven, until}
-use Rattle.pm_drive.specs.Heard.{heard_in}
+use Rattle.pm_drive.specs.Completed.{completed_in}
 use Rattle.pm_apart.specs.Lines.{is_name, step_lines}
 
 -- a number that passes this test, with the words after it
@@ -84,21 +84,21 @@ tells_clock number line = is_told (codes "clock") (λ clock others. clock == num
 -- timed tasks is the same where those of the two boards stand the same
 pub record TellsApart (c : Setup) (events : List Event) (m : NodeId) : Type 0 where
   pub starts : (board other : Standing) (answers others : List (List Bool)) (cut : Option ℕ)
-      → filter (tells_start c (border_of (fixed_of c) m)) (step_lines 0 (heard_in c board (until cut (driven c answers events))))
-      ≡ filter (tells_start c (border_of (fixed_of c) m)) (step_lines 0 (heard_in c other (until cut (driven c others (quiet m events)))))
+      → filter (tells_start c (border_of (fixed_of c) m)) (step_lines 0 (completed_in c board (until cut (driven c answers events))))
+      ≡ filter (tells_start c (border_of (fixed_of c) m)) (step_lines 0 (completed_in c other (until cut (driven c others (quiet m events)))))
   pub drops : (board other : Standing) (answers others : List (List Bool)) (cut : Option ℕ)
-      → filter (tells_drop c (border_of (fixed_of c) m) m) (step_lines 0 (heard_in c board (until cut (driven c answers events))))
-      ≡ filter (tells_drop c (border_of (fixed_of c) m) m) (step_lines 0 (heard_in c other (until cut (driven c others (quiet m events)))))
+      → filter (tells_drop c (border_of (fixed_of c) m) m) (step_lines 0 (completed_in c board (until cut (driven c answers events))))
+      ≡ filter (tells_drop c (border_of (fixed_of c) m) m) (step_lines 0 (completed_in c other (until cut (driven c others (quiet m events)))))
   pub callbacks : (board other : Standing) (answers others : List (List Bool)) (cut : Option ℕ)
-      → filter (tells_call c (border_of (fixed_of c) m)) (step_lines 0 (heard_in c board (until cut (driven c answers events))))
-      ≡ filter (tells_call c (border_of (fixed_of c) m)) (step_lines 0 (heard_in c other (until cut (driven c others (quiet m events)))))
+      → filter (tells_call c (border_of (fixed_of c) m)) (step_lines 0 (completed_in c board (until cut (driven c answers events))))
+      ≡ filter (tells_call c (border_of (fixed_of c) m)) (step_lines 0 (completed_in c other (until cut (driven c others (quiet m events)))))
   pub busy : (board other : Standing) (answers others : List (List Bool)) (cut : Option ℕ)
-      → filter (tells_busy m) (step_lines 0 (heard_in c board (until cut (driven c answers events))))
-      ≡ filter (tells_busy m) (step_lines 0 (heard_in c other (until cut (driven c others (quiet m events)))))
+      → filter (tells_busy m) (step_lines 0 (completed_in c board (until cut (driven c answers events))))
+      ≡ filter (tells_busy m) (step_lines 0 (completed_in c other (until cut (driven c others (quiet m events)))))
   pub tasks : (board other : Standing) → board.tasks ≡ other.tasks → (answers others : List (List Bool)) (cut : Option ℕ)
-      → filter tells_task (step_lines 0 (heard_in c board (until cut (driven c answers events))))
-      ≡ filter tells_task (step_lines 0 (heard_in c other (until cut (driven c others (quiet m events)))))
+      → filter tells_task (step_lines 0 (completed_in c board (until cut (driven c answers events))))
+      ≡ filter tells_task (step_lines 0 (completed_in c other (until cut (driven c others (quiet m events)))))
   pub clocks : (number : ℕ) → IsClockBeyond (fixed_of c) (border_of (fixed_of c) m) number
       → (board other : Standing) (answers others : List (List Bool)) (cut : Option ℕ)
-      → filter (tells_clock number) (step_lines 0 (heard_in c board (until cut (driven c answers events))))
-      ≡ filter (tells_clock number) (step_lines 0 (heard_in c other (until cut (driven c others (quiet m events)))))
+      → filter (tells_clock number) (step_lines 0 (completed_in c board (until cut (driven c answers events))))
+      ≡ filter (tells_clock number) (step_lines 0 (completed_in c other (until cut (driven c others (quiet m events)))))

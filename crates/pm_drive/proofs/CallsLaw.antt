@@ -23,7 +23,7 @@ use Rattle.pm_apply.specs.Part.{Kept}
 use Rattle.pm_record.specs.Record.{at_zero}
 use Rattle.pm_drive.specs.Drive.{Driven, answers_after, drive, drive_line, driven, until}
 use Rattle.pm_drive.specs.Clocks.{clock_note, clock_notes, clocked, clocked_by, first_tree, tree_along, turned}
-use Rattle.pm_drive.specs.Heard.{heard_by, heard_in, heard_line, last_board}
+use Rattle.pm_drive.specs.Completed.{completed_by, completed_in, completed_line, last_board}
 use Rattle.pm_drive.specs.Tasks.{fired_note, task_notes}
 use Rattle.pm_drive.specs.Calls.{CallsAreTold, EachTellsWhatIsDue, TellsWhatIsDue, calls_in, calls_told, count_of, is_due_in, is_of}
 use Rattle.pm_drive.proofs.ClocksLaw.{board_clocked}
@@ -143,26 +143,26 @@ line_counts event t key = same_counts (slot key t)
 abbrev TellsNone : Driven → Type 0
 TellsNone x = calls_in x.line.notes ≡ []
 
-heard_calls : (board : Standing) (x : Driven) → TellsNone x → calls_in (heard_line board x).line.notes ≡ calls_in (task_notes x.line.event board.tasks)
-heard_calls board x none =
+completed_calls : (board : Standing) (x : Driven) → TellsNone x → calls_in (completed_line board x).line.notes ≡ calls_in (task_notes x.line.event board.tasks)
+completed_calls board x none =
     calls_append x.line.notes (task_notes x.line.event board.tasks)
     ∙ ap (λ (calls : List Fired). calls ++ calls_in (task_notes x.line.event board.tasks)) none
 
-lines_due : (board : Standing) (xs : List Driven) → Each TellsNone xs → EachTellsWhatIsDue board (heard_by board xs)
+lines_due : (board : Standing) (xs : List Driven) → Each TellsNone xs → EachTellsWhatIsDue board (completed_by board xs)
 lines_due board [] none = tt
 lines_due board (x ∷ xs) none =
     let P : List Fired → Type 0 = TellsWhatIsDue x.line.event board.tasks in
-    (subst P (sym (heard_calls board x none.0)) (line_due x.line.event board.tasks), lines_due (board_after x.line.event board) xs none.1)
+    (subst P (sym (completed_calls board x none.0)) (line_due x.line.event board.tasks), lines_due (board_after x.line.event board) xs none.1)
 
 lines_counts : (key : ℕ) (board : Standing) (xs : List Driven) → Each TellsNone xs
-    → Counts (count_of key (calls_told (heard_by board xs))) (slot key board.tasks) (slot key (last_board board xs).tasks)
+    → Counts (count_of key (calls_told (completed_by board xs))) (slot key board.tasks) (slot key (last_board board xs).tasks)
 lines_counts key board [] none = same_counts (slot key board.tasks)
 lines_counts key board (x ∷ xs) none =
     let next : Standing = board_after x.line.event board in
-    let told : List Fired = calls_in (heard_line board x).line.notes in
-    let more : List Fired = calls_told (heard_by next xs) in
+    let told : List Fired = calls_in (completed_line board x).line.notes in
+    let more : List Fired = calls_told (completed_by next xs) in
     let once : count_of key told ≡ (if is_due_in x.line.event board.tasks key then 1 else 0) =
-    ap (count_of key) (heard_calls board x none.0) ∙ (line_due x.line.event board.tasks).once key in
+    ap (count_of key) (completed_calls board x none.0) ∙ (line_due x.line.event board.tasks).once key in
     let all : count_of key (told ++ more) ≡ (if is_due_in x.line.event board.tasks key then 1 else 0) + count_of key more =
     sum_by-append _ told more ∙ ap (λ (n : ℕ). n + count_of key more) once in
     let P : ℕ → Type 0 = λ n. Counts n (slot key board.tasks) (slot key (last_board next xs).tasks) in
@@ -179,15 +179,15 @@ counted_from n key (Some timed) (Some later) counts old new was is =
     let after : later ≡ new = cc in
     rw (sym before, sym after) counts
 
-told_by_lines : (board : Standing) (xs : List Driven) → Each TellsNone xs → CallsAreTold (heard_by board xs) board (last_board board xs).tasks
+told_by_lines : (board : Standing) (xs : List Driven) → Each TellsNone xs → CallsAreTold (completed_by board xs) board (last_board board xs).tasks
 told_by_lines board xs none = record {
   due = lines_due board xs none;
   counted = counted_from_lines;
 }
   where
     counted_from_lines : (key : ℕ) (old new : Timed) → slot key board.tasks ≡ Some old → slot key (last_board board xs).tasks ≡ Some new
-        → new.calls % 2 ^ 32 ≡ (old.calls + count_of key (calls_told (heard_by board xs))) % 2 ^ 32
-    counted_from_lines key = counted_from (count_of key (calls_told (heard_by board xs))) key (slot key board.tasks) (slot key (last_board board xs).tasks) (lines_counts key board xs none)
+        → new.calls % 2 ^ 32 ≡ (old.calls + count_of key (calls_told (completed_by board xs))) % 2 ^ 32
+    counted_from_lines key = counted_from (count_of key (calls_told (completed_by board xs))) key (slot key board.tasks) (slot key (last_board board xs).tasks) (lines_counts key board xs none)
 
 -- ---- the lines of a run tell none of themselves
 
@@ -236,11 +236,11 @@ clocked_quiet tree (x ∷ xs) none = (
 )
 
 pub calls_told_in_run : (c : Setup) (board : Standing) (events : List Event) (answers : List (List Bool)) (cut : Option ℕ)
-    → CallsAreTold (heard_in c board (until cut (driven c answers events))) board (last_board board (until cut (driven c answers events))).tasks
+    → CallsAreTold (completed_in c board (until cut (driven c answers events))) board (last_board board (until cut (driven c answers events))).tasks
 calls_told_in_run c board events answers cut =
     let xs : List Driven = until cut (driven c answers events) in
     let quiet : Each TellsNone xs =
     until_each cut (driven c answers events) (drive_quiet (at_zero c.topology) answers (run c events) (refl, lines_quiet c events (loaded c)))
     in
-    subst (λ (left : Standing). CallsAreTold (heard_in c board xs) board left.tasks) (board_clocked (first_tree c) xs board)
+    subst (λ (left : Standing). CallsAreTold (completed_in c board xs) board left.tasks) (board_clocked (first_tree c) xs board)
     (told_by_lines board (clocked c xs) (clocked_quiet (first_tree c) xs quiet))

@@ -29,7 +29,7 @@ use Rattle.pm_trace.specs.declared.line.Word.{Word}
 use Rattle.pm_trace.specs.Notes.{note_words}
 use Rattle.pm_drive.specs.Drive.{Driven, Given, acts, acts_of, answers_after, drive, drive_line, driven, first_answers, give, kept_after, last_book, last_kept, later_answers, orders_in_cores, rigs}
 use Rattle.pm_drive.specs.Clocks.{clock_note, clock_notes, clocked_by, clocked_core, clocked_cores, first_tree, last_tree, table_text, tree_after_core, tree_along, turned}
-use Rattle.pm_drive.specs.Heard.{heard_by, heard_core, heard_cores, last_board}
+use Rattle.pm_drive.specs.Completed.{completed_by, completed_core, completed_cores, last_board}
 use Rattle.pm_drive.specs.Tasks.{task_notes}
 use Rattle.pm_drive.specs.Lowered.{HaveSameSteps, but_clocks, given_in, lowered_script, told_but_clocks, told_by, told_in}
 
@@ -77,10 +77,10 @@ is_calm (event ∷ events) board = stays_calm events board
 record GoOn (book : State) (kept : Kept) (xs : List Driven) (given : List Given) (next : State) (more : Kept) (ys : List Driven) (left : Standing → Standing) : Type 0 where
   steps : given_in xs ≡ given ++ given_in ys
   told : told_in xs ≡ flat_map told_by given ++ told_in ys
-  heard : (board : Standing) → told_in (heard_by board xs) ≡ flat_map told_by (heard_cores board.modules given) ++ told_in (heard_by (left board) ys)
+  completed : (board : Standing) → told_in (completed_by board xs) ≡ flat_map told_by (completed_cores board.modules given) ++ told_in (completed_by (left board) ys)
   board : (board : Standing) → last_board board xs ≡ last_board (left board) ys
-  clocked : (board : Standing) (tree : Tree) → told_but_clocks (heard_by board (clocked_by tree xs))
-      ≡ flat_map told_by (heard_cores board.modules (clocked_cores tree given)) ++ told_but_clocks (heard_by (left board) (clocked_by (tree_along given tree) ys))
+  clocked : (board : Standing) (tree : Tree) → told_but_clocks (completed_by board (clocked_by tree xs))
+      ≡ flat_map told_by (completed_cores board.modules (clocked_cores tree given)) ++ told_but_clocks (completed_by (left board) (clocked_by (tree_along given tree) ys))
   tree : (tree : Tree) → last_tree tree xs ≡ last_tree (tree_along given tree) ys
   done : acts xs ≡ orders_in_cores given ++ acts ys
   last : last_book book xs ≡ last_book next ys
@@ -126,7 +126,7 @@ module _ (c : Setup) where
       record {
         steps = refl;
         told = refl;
-        heard = λ board. refl;
+        completed = λ board. refl;
         board = λ board. refl;
         clocked = λ board tree. refl;
         tree = λ tree. refl;
@@ -149,22 +149,22 @@ module _ (c : Setup) where
         told =
             ap (λ first. first ++ told_in xs) (append-nil (told_by g ++ []) ∙ append-nil (told_by g))
             ∙ (ap (λ more. told_by g ++ more) later.told ∙ sym (append_assoc (told_by g) (flat_map told_by gs) (told_in tail)));
-        heard = λ board.
-            let told : List (List Word) = told_by (heard_core board.modules g) in
-            let rest_told : List (List Word) = flat_map told_by (heard_cores board.modules gs) in
-            ap (λ (notes : List Note). ((told ++ []) ++ map note_words notes) ++ told_in (heard_by (board_after e board) xs)) (plain.0.no_note board.tasks)
-            ∙ (ap (λ (after : Standing). ((told ++ []) ++ []) ++ told_in (heard_by after xs)) (plain.0.calms board)
-            ∙ (ap (λ (first : List (List Word)). first ++ told_in (heard_by (calm board) xs)) (append-nil (told ++ []) ∙ append-nil told)
-            ∙ (ap (λ (more : List (List Word)). told ++ more) (later.heard (calm board))
-            ∙ sym (append_assoc told rest_told (told_in (heard_by (calm_after es (calm board)) tail))))));
+        completed = λ board.
+            let told : List (List Word) = told_by (completed_core board.modules g) in
+            let rest_told : List (List Word) = flat_map told_by (completed_cores board.modules gs) in
+            ap (λ (notes : List Note). ((told ++ []) ++ map note_words notes) ++ told_in (completed_by (board_after e board) xs)) (plain.0.no_note board.tasks)
+            ∙ (ap (λ (after : Standing). ((told ++ []) ++ []) ++ told_in (completed_by after xs)) (plain.0.calms board)
+            ∙ (ap (λ (first : List (List Word)). first ++ told_in (completed_by (calm board) xs)) (append-nil (told ++ []) ∙ append-nil told)
+            ∙ (ap (λ (more : List (List Word)). told ++ more) (later.completed (calm board))
+            ∙ sym (append_assoc told rest_told (told_in (completed_by (calm_after es (calm board)) tail))))));
         board = λ board. ap (λ (after : Standing). last_board after xs) (plain.0.calms board) ∙ later.board (calm board);
         clocked = λ board tree.
             let next_tree : Tree = tree_after_core g.core tree in
-            let told : List (List Word) = told_by (heard_core board.modules (clocked_core tree g)) in
-            let rest_told : List (List Word) = flat_map told_by (heard_cores board.modules (clocked_cores next_tree gs)) in
+            let told : List (List Word) = told_by (completed_core board.modules (clocked_core tree g)) in
+            let rest_told : List (List Word) = flat_map told_by (completed_cores board.modules (clocked_cores next_tree gs)) in
             let notes : List Note = clock_notes tree (g ∷ []) in
-            let more : Standing → List (List Word) = λ after. told_but_clocks (heard_by after (clocked_by next_tree xs)) in
-            let end : List (List Word) = told_but_clocks (heard_by (calm_after es (calm board)) (clocked_by (tree_along gs next_tree) tail)) in
+            let more : Standing → List (List Word) = λ after. told_but_clocks (completed_by after (clocked_by next_tree xs)) in
+            let end : List (List Word) = told_but_clocks (completed_by (calm_after es (calm board)) (clocked_by (tree_along gs next_tree) tail)) in
             ap (λ (fired : List Note). ((told ++ []) ++ map note_words (but_clocks (notes ++ fired))) ++ more (board_after e board)) (plain.0.no_note board.tasks)
             ∙ (ap (λ (left : List Note). ((told ++ []) ++ map note_words left) ++ more (board_after e board)) (none_of_clocks (turned tree next_tree) [])
             ∙ (ap (λ (after : Standing). ((told ++ []) ++ []) ++ more after) (plain.0.calms board)
@@ -187,7 +187,7 @@ module _ (c : Setup) where
       record {
         steps = refl;
         told = refl;
-        heard = λ board. refl;
+        completed = λ board. refl;
         board = λ board. refl;
         clocked = λ board tree. refl;
         tree = λ tree. refl;
@@ -211,21 +211,21 @@ module _ (c : Setup) where
         told =
             ap (λ first. first ++ told_in xs) (append-nil (flat_map told_by given))
             ∙ (ap (λ more. flat_map told_by given ++ more) later.told ∙ sym lower.told);
-        heard = λ board.
-            let told : List (List Word) = flat_map told_by (heard_cores board.modules given) in
-            ap (λ (first : List (List Word)). first ++ told_in (heard_by (calm board) xs)) (append-nil told)
-            ∙ (ap (λ (more : List (List Word)). told ++ more) (later.heard (calm board))
-            ∙ (ap (λ (after : Standing). told ++ told_in (heard_by after ys)) (sym (is_calm sent_events board)) ∙ sym (lower.heard board)));
+        completed = λ board.
+            let told : List (List Word) = flat_map told_by (completed_cores board.modules given) in
+            ap (λ (first : List (List Word)). first ++ told_in (completed_by (calm board) xs)) (append-nil told)
+            ∙ (ap (λ (more : List (List Word)). told ++ more) (later.completed (calm board))
+            ∙ (ap (λ (after : Standing). told ++ told_in (completed_by after ys)) (sym (is_calm sent_events board)) ∙ sym (lower.completed board)));
         board = λ board.
             later.board (calm board)
             ∙ (ap (λ (after : Standing). last_board after ys) (sym (is_calm sent_events board)) ∙ sym (lower.board board));
         clocked = λ board tree.
             let next_tree : Tree = tree_along given tree in
-            let told : List (List Word) = flat_map told_by (heard_cores board.modules (clocked_cores tree given)) in
-            ap (λ (left : List Note). (told ++ map note_words left) ++ told_but_clocks (heard_by (calm board) (clocked_by next_tree xs))) (none_of_clocks (turned tree next_tree) [])
-            ∙ (ap (λ (first : List (List Word)). first ++ told_but_clocks (heard_by (calm board) (clocked_by next_tree xs))) (append-nil told)
+            let told : List (List Word) = flat_map told_by (completed_cores board.modules (clocked_cores tree given)) in
+            ap (λ (left : List Note). (told ++ map note_words left) ++ told_but_clocks (completed_by (calm board) (clocked_by next_tree xs))) (none_of_clocks (turned tree next_tree) [])
+            ∙ (ap (λ (first : List (List Word)). first ++ told_but_clocks (completed_by (calm board) (clocked_by next_tree xs))) (append-nil told)
             ∙ (ap (λ (more : List (List Word)). told ++ more) (later.clocked (calm board) next_tree)
-            ∙ (ap (λ (after : Standing). told ++ told_but_clocks (heard_by after (clocked_by next_tree ys))) (sym (is_calm sent_events board))
+            ∙ (ap (λ (after : Standing). told ++ told_but_clocks (completed_by after (clocked_by next_tree ys))) (sym (is_calm sent_events board))
             ∙ sym (lower.clocked board tree))));
         tree = λ tree. later.tree (tree_along given tree) ∙ sym (lower.tree tree);
         done = ap (λ more. orders_in_cores given ++ more) later.done ∙ sym lower.done;
@@ -239,13 +239,13 @@ module _ (c : Setup) where
       record {
         steps = ap (λ more. x.cores ++ more) later.steps;
         told = ap (λ more. (flat_map told_by x.cores ++ map note_words x.line.notes) ++ more) later.told;
-        heard = λ board.
-            ap (λ more. (flat_map told_by (heard_cores board.modules x.cores) ++ map note_words (line.notes ++ task_notes event board.tasks)) ++ more)
-            (later.heard (board_after event board));
+        completed = λ board.
+            ap (λ more. (flat_map told_by (completed_cores board.modules x.cores) ++ map note_words (line.notes ++ task_notes event board.tasks)) ++ more)
+            (later.completed (board_after event board));
         board = λ board. later.board (board_after event board);
         clocked = λ board tree.
             let notes : List Note = (line.notes ++ clock_notes tree x.cores) ++ task_notes event board.tasks in
-            ap (λ more. (flat_map told_by (heard_cores board.modules (clocked_cores tree x.cores)) ++ map note_words (but_clocks notes)) ++ more)
+            ap (λ more. (flat_map told_by (completed_cores board.modules (clocked_cores tree x.cores)) ++ map note_words (but_clocks notes)) ++ more)
             (later.clocked (board_after event board) (tree_along x.cores tree));
         tree = λ tree. later.tree (tree_along x.cores tree);
         done = ap (λ more. acts_of x ++ more) later.done;
@@ -264,12 +264,12 @@ module _ (c : Setup) where
       record {
         steps = ap (λ more. x.cores ++ more) later.steps;
         told = ap (λ more. (flat_map told_by x.cores ++ map note_words x.line.notes) ++ more) later.told;
-        heard = λ board.
-            ap (λ more. (flat_map told_by (heard_cores board.modules x.cores) ++ []) ++ more) (later.heard (board_after Pass board));
+        completed = λ board.
+            ap (λ more. (flat_map told_by (completed_cores board.modules x.cores) ++ []) ++ more) (later.completed (board_after Pass board));
         clocked = λ board.
             let tree : Tree = first_tree c in
             let notes : List Note = clock_notes tree x.cores ++ [] in
-            ap (λ more. (flat_map told_by (heard_cores board.modules (clocked_cores tree x.cores)) ++ map note_words (but_clocks notes)) ++ more)
+            ap (λ more. (flat_map told_by (completed_cores board.modules (clocked_cores tree x.cores)) ++ map note_words (but_clocks notes)) ++ more)
             (later.clocked (board_after Pass board) (tree_along x.cores tree));
         board = λ board. later.board (board_after Pass board);
         tree = later.tree (tree_along x.cores (first_tree c));

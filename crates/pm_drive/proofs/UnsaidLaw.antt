@@ -30,7 +30,7 @@ use Rattle.pm_run.specs.Run.{core_of, cores_of}
 use Rattle.pm_apply.specs.Part.{Kept, Part, part_of}
 use Rattle.pm_drive.specs.Clocks.{clocked_core, clocked_cores, tree_after_core}
 use Rattle.pm_drive.specs.Drive.{Given, first_answers, give, later_answers}
-use Rattle.pm_drive.specs.Heard.{heard, heard_core, heard_cores}
+use Rattle.pm_drive.specs.Completed.{completed, completed_core, completed_cores}
 
 -- a word below a range isn't in it
 below_range : (word first last : ℕ) → word < first → (nat_le first word && nat_le word last) ≡ false
@@ -46,12 +46,12 @@ module _ (modules : List Ranged) (from : Each (λ (it : Ranged). 256 ≤ it.firs
 
   -- what the book answers to this event is what is told
   record IsUnsaid (event : Event) : Type 0 where
-    told : (answer : Answer) → heard modules event answer ≡ answer
+    told : (answer : Answer) → completed modules event answer ≡ answer
 
   message_unsaid : (sender : NodeId) (message : Message) → message.api < 256 → IsUnsaid (Ipi sender message)
   message_unsaid sender message low = record { told = by }
     where
-      by : (answer : Answer) → heard modules (Ipi sender message) answer ≡ answer
+      by : (answer : Answer) → completed modules (Ipi sender message) answer ≡ answer
       by (Reply master response) =
           ap (λ (said : Option Response). Reply master (unwrap_or said response)) (unsaid_to modules from message low)
       by Silent = refl
@@ -77,17 +77,17 @@ module _ (modules : List Ranged) (from : Each (λ (it : Ranged). 256 ≤ it.firs
       by false Unknown = (pass_unsaid, tt)
 
   cores_unsaid : (events : List Event) → Each IsUnsaid events → (kept : Kept) (answers : List (List Bool)) (book : State)
-      → heard_cores modules (give kept answers (cores_of events book)) ≡ give kept answers (cores_of events book)
+      → completed_cores modules (give kept answers (cores_of events book)) ≡ give kept answers (cores_of events book)
   cores_unsaid [] unsaid kept answers book = refl
   cores_unsaid (event ∷ events) unsaid kept answers book =
       let p : Part = part_of kept (first_answers answers) (effect event book) (outputs event book) in
       let rest : List Given = give p.kept (later_answers answers) (cores_of events (effect event book)) in
-      ap (λ (more : List Given). heard_core modules (record { core = core_of event book; part = p }) ∷ more)
+      ap (λ (more : List Given). completed_core modules (record { core = core_of event book; part = p }) ∷ more)
       (cores_unsaid events unsaid.1 p.kept (later_answers answers) (effect event book))
       ∙ ap (λ (a : Answer). record { core = core_of event book; part = record p { answer = a } } ∷ rest) (unsaid.0.told p.answer)
 
   pub call_unsaid : (t : Topology) (smc : psci.Smc) (kept : Kept) (answers : List (List Bool)) (book : State)
-      → heard_cores modules (give kept answers (cores_of (lowered t smc) book)) ≡ give kept answers (cores_of (lowered t smc) book)
+      → completed_cores modules (give kept answers (cores_of (lowered t smc) book)) ≡ give kept answers (cores_of (lowered t smc) book)
   call_unsaid t smc kept answers book = cores_unsaid (lowered t smc) (lowered_unsaid t smc) kept answers book
 
 -- ---- clocks

@@ -7,7 +7,7 @@ use Rattle.pm_apply.specs.Part.{Kept}
 use Rattle.pm_drive.specs.Drive.{Driven, acts, last_book, last_kept, until}
 use Rattle.pm_clock_tree.specs.Tree.{Tree}
 use Rattle.pm_drive.specs.Clocks.{clocked_by, clocked_cores}
-use Rattle.pm_drive.specs.Heard.{heard_by, heard_cores, last_board}
+use Rattle.pm_drive.specs.Completed.{completed_by, completed_cores, last_board}
 use Rattle.pm_drive.specs.Lowered.{given_in}
 
 -- the event of a driven line
@@ -18,12 +18,12 @@ event_of x = x.line.event
 -- with the same books, outputs and commands, and with the answers as they are told; the same is done to the device; and they
 -- end with the same book and the same kept values. Where the text breaks off, the lines up to there are told as they are in the whole
 pub record LeavesRun (board : Standing) (xs : List Driven) : Type 0 where
-  pub events : map event_of (heard_by board xs) ≡ map event_of xs
-  pub steps : given_in (heard_by board xs) ≡ heard_cores board.modules (given_in xs)
-  pub done : acts (heard_by board xs) ≡ acts xs
-  pub book : (book : State) → last_book book (heard_by board xs) ≡ last_book book xs
-  pub kept : (kept : Kept) → last_kept kept (heard_by board xs) ≡ last_kept kept xs
-  pub front : (cut : Option ℕ) → until cut (heard_by board xs) ≡ heard_by board (until cut xs)
+  pub events : map event_of (completed_by board xs) ≡ map event_of xs
+  pub steps : given_in (completed_by board xs) ≡ completed_cores board.modules (given_in xs)
+  pub done : acts (completed_by board xs) ≡ acts xs
+  pub book : (book : State) → last_book book (completed_by board xs) ≡ last_book book xs
+  pub kept : (kept : Kept) → last_kept kept (completed_by board xs) ≡ last_kept kept xs
+  pub front : (cut : Option ℕ) → until cut (completed_by board xs) ≡ completed_by board (until cut xs)
 
 -- so it is with the clocks of the book, which driven lines find so: of their core steps the answers to calls on clocks are those of
 -- the clocks, and nothing else is changed

@@ -5,7 +5,7 @@ pub mod Lowered
 pub mod PowerCalls
 pub mod Text
 pub mod Tasks
-pub mod Heard
+pub mod Completed
 pub mod Boards
 pub mod Calls
 pub mod Followed

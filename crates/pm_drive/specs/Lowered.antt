@@ -13,7 +13,7 @@ use Rattle.pm_trace.specs.Step.{notices_of, output_words}
 use Rattle.pm_board.specs.Board.{Standing}
 use Rattle.pm_drive.specs.Drive.{Driven, Given, acts}
 use Rattle.pm_drive.specs.Clocks.{first_tree, last_tree}
-use Rattle.pm_drive.specs.Heard.{heard_by, heard_in, last_board}
+use Rattle.pm_drive.specs.Completed.{completed_by, completed_in, last_board}
 use Rattle.pm_drive.specs.Text.{closing_after}
 
 -- the lines in place of one
@@ -57,8 +57,9 @@ told_but_clocks xs = flat_map (λ (x : Driven). flat_map told_by x.cores ++ map 
 pub record HaveSameSteps (c : Setup) (xs ys : List Driven) : Type 0 where
   pub steps : given_in xs ≡ given_in ys
   pub told : told_in xs ≡ told_in ys
-  pub heard : (board : Standing) → told_in (heard_by board xs) ≡ told_in (heard_by board ys)
-  pub clocked : (board : Standing) → told_but_clocks (heard_in c board xs) ≡ told_but_clocks (heard_in c board ys)
+  pub completed : (board : Standing) → told_in (completed_by board xs) ≡ told_in (completed_by board ys)
+  pub clocked : (board : Standing)
+      → told_but_clocks (completed_in c board xs) ≡ told_but_clocks (completed_in c board ys)
   pub board : (board : Standing) → last_board board xs ≡ last_board board ys
   pub tree : last_tree (first_tree c) xs ≡ last_tree (first_tree c) ys
   pub done : acts xs ≡ acts ys

@@ -15,7 +15,7 @@ use Rattle.pm_apply.specs.Part.{Kept}
 use Rattle.pm_trace.specs.Notes.{notes_text}
 use Rattle.pm_drive.specs.Drive.{Given, acts_of, drive_line, give, orders_in_cores}
 use Rattle.pm_drive.specs.Clocks.{clock_notes, clocked_cores, clocked_line}
-use Rattle.pm_drive.specs.Heard.{heard_cores, heard_line}
+use Rattle.pm_drive.specs.Completed.{completed_cores, completed_line}
 use Rattle.pm_drive.specs.Text.{driven_text, given_text, reply_after}
 
 -- a call of a processor by its words, in a setup, from what a line finds, over a device that answers so
@@ -47,11 +47,13 @@ module _ (c : Setup) (proc : NodeId) (function : ℕ) (args : List ℕ) (stand :
     pub boxes : line_of_call.after.boxes ≡ stand.boxes
     pub commands : acts_of (drive_line kept answers line_of_call) ≡ orders_in_cores given_of_call
     pub text : (n : ℕ) → driven_text n (drive_line kept answers line_of_call) ≡ text_of_call n [] given_of_call
-    pub heard : (board : Standing) (tree : Tree) (n : ℕ)
-        → driven_text n (heard_line board (clocked_line tree (drive_line kept answers line_of_call)))
-        ≡ text_of_call n (clock_notes tree given_of_call) (heard_cores board.modules (clocked_cores tree given_of_call))
+    pub completed : (board : Standing) (tree : Tree) (n : ℕ)
+        → driven_text n (completed_line board (clocked_line tree (drive_line kept answers line_of_call)))
+        ≡ text_of_call n (clock_notes tree given_of_call)
+        (completed_cores board.modules (clocked_cores tree given_of_call))
     pub unasked : (tree : Tree) → clocked_cores tree given_of_call ≡ given_of_call
-    pub unsaid : (modules : List Ranged) → Each (λ (it : Ranged). 256 ≤ it.first) modules → heard_cores modules given_of_call ≡ given_of_call
+    pub unsaid : (modules : List Ranged) → Each (λ (it : Ranged). 256 ≤ it.first) modules
+        → completed_cores modules given_of_call ≡ given_of_call
 
 -- so is the line of each power call
 abbrev pub EachCallIsItsEvents : Setup → Type 0

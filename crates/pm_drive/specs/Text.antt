@@ -14,7 +14,7 @@ use Rattle.pm_trace.specs.Notes.{notes_text}
 use Rattle.pm_trace.specs.Step.{core_text}
 use Rattle.pm_drive.specs.Drive.{Driven, Given, driven, last_book, last_kept}
 use Rattle.pm_drive.specs.Clocks.{first_tree, last_tree, table_text}
-use Rattle.pm_drive.specs.Heard.{heard_in}
+use Rattle.pm_drive.specs.Completed.{completed_in}
 
 -- what is written of core steps, numbered by their line
 abbrev pub given_text : ℕ → List Given → List ℕ
@@ -49,4 +49,4 @@ closing_after c xs =
 
 -- the whole text of a run that begins with a board: that of line 0 and of each line, and the closing table
 abbrev pub run_text : Setup → Standing → List (List Bool) → List Event → List ℕ
-run_text c board answers events = concat (texts 0 (heard_in c board (driven c answers events)) ++ closing_after c (driven c answers events) ∷ [])
+run_text c board answers events = concat (texts 0 (completed_in c board (driven c answers events)) ++ closing_after c (driven c answers events) ∷ [])

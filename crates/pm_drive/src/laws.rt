@@ -13,7 +13,7 @@ ghost use Rattle.pm_drive.specs.Calls.{CallsAreTold};
 ghost use Rattle.pm_drive.specs.Drive.{Driven, acts, driven, until};
 ghost use Rattle.pm_drive.specs.Drove.{Drove};
 ghost use Rattle.pm_drive.specs.Followed.{ClocksStand};
-ghost use Rattle.pm_drive.specs.Heard.{heard_in, last_board};
+ghost use Rattle.pm_drive.specs.Completed.{completed_in, last_board};
 ghost use Rattle.pm_drive.specs.Lowered.{HaveSameSteps, lowered_script};
 ghost use Rattle.pm_drive.specs.PowerCalls.{EachCallIsItsEvents};
 
@@ -87,6 +87,6 @@ pub fn clocks_are_followed()
 /// for each call that they tell of it.
 pub fn calls_are_told()
     ensures { (c : Setup) (board : Standing) (events : List Event) (answers : List (List Bool)) (cut : Option ℕ)
-        → CallsAreTold (heard_in c board (until cut (driven c answers events))) board
+        → CallsAreTold (completed_in c board (until cut (driven c answers events))) board
         (last_board board (until cut (driven c answers events))).tasks }
 {}

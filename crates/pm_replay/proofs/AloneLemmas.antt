@@ -16,7 +16,7 @@ use Rattle.pm_split.specs.declared.cores.CoreEvents.TheVariants.{Past}
 use Rattle.pm_split.specs.Split.{Note, Split, called_note}
 use Rattle.pm_run.specs.Run.{Setup, Stand, setup_of, split}
 use Rattle.pm_drive.specs.Drive.{rigs}
-use Rattle.pm_drive.specs.Heard.{heard}
+use Rattle.pm_drive.specs.Completed.{completed}
 use Rattle.pm_drive.specs.Text.{later_reply}
 use Rattle.pm_engine.specs.Progress.{Progress, stand_in}
 use Rattle.pm_replay.specs.Within.{RanCore, RanCores, is_alone}
@@ -93,7 +93,7 @@ module _ {O D : Type 0} (o : Sink.Ghosts O) (d : Device.Ghosts D) where
   pub alone_way : (n : ℕ) (event : Event) (modules : List Ranged) (start mid : Progress) (far : Result ⊤ Failed) (first via : O) (begin between : D)
       → is_alone event ≡ true → mid.boxes ≡ start.boxes → mid.clocks.told ≡ start.clocks.told
       → RanCore o d n event start.book start.kept start.clocks.tree mid modules (Ok tt) far first via begin between
-      → IsUnderWay o d n event modules Past start mid (later_reply None (heard modules event mid.outbox.answer)) far first via begin between
+      → IsUnderWay o d n event modules Past start mid (later_reply None (completed modules event mid.outbox.answer)) far first via begin between
   alone_way n event modules start mid far first via begin between is boxes tells one =
       let splits = alone_split (setup_of start.book) event (stand_in start) is in
       record {

@@ -29,7 +29,7 @@ use Rattle.pm_trace.specs.Notes.{notes_text}
 use Rattle.pm_trace.specs.Step.{Notices, notices_of, step_text}
 use Rattle.pm_drive.specs.Drive.{Given, give, kept_after, orders_in_cores, rigs}
 use Rattle.pm_drive.specs.Clocks.{clock_note, clock_notes, clocked_cores, clocked_part, tree_along}
-use Rattle.pm_drive.specs.Heard.{heard, heard_cores}
+use Rattle.pm_drive.specs.Completed.{completed, completed_cores}
 use Rattle.pm_drive.specs.Tasks.{task_notes}
 use Rattle.pm_drive.specs.Text.{given_text, later_reply, reply_after}
 use Rattle.pm_engine.specs.Progress.{Progress, stand_in}
@@ -47,9 +47,9 @@ module _ {O D : Type 0} (o : Sink.Ghosts O) (d : Device.Ghosts D) where
   RanCores-none n now then modules reply so_far old from book kept tree = record { answers = []; fits = refl; after = book; keeps = kept; given = refl; turned = tree; replied = refl; writes = on-none o so_far old }
 
   -- one was carried out, and then the others
-  pub RanCores-next : (n : ℕ) (event : Event) (events : List Event) (book : State) (kept : Kept) (tree : Tree) (mid then : Progress) (modules : List Ranged) (reply told : Option Response) (so_far far result : Result ⊤ Failed) (old via new : O) (from between to : D) → RanCore o d n event book kept tree mid modules so_far far old via from between → RanCores o d n events mid.book mid.kept mid.clocks.tree then modules (later_reply reply (heard modules event mid.outbox.answer)) told far result via new between to → RanCores o d n (event ∷ events) book kept tree then modules reply told so_far result old new from to
+  pub RanCores-next : (n : ℕ) (event : Event) (events : List Event) (book : State) (kept : Kept) (tree : Tree) (mid then : Progress) (modules : List Ranged) (reply told : Option Response) (so_far far result : Result ⊤ Failed) (old via new : O) (from between to : D) → RanCore o d n event book kept tree mid modules so_far far old via from between → RanCores o d n events mid.book mid.kept mid.clocks.tree then modules (later_reply reply (completed modules event mid.outbox.answer)) told far result via new between to → RanCores o d n (event ∷ events) book kept tree then modules reply told so_far result old new from to
   RanCores-next n event events book kept tree mid then modules reply told so_far far result old via new from between to one later =
-      let answer : Answer = heard modules event mid.outbox.answer in
+      let answer : Answer = completed modules event mid.outbox.answer in
       let next : Option Response = later_reply reply answer in
       let after_tree : Tree = tree_after event (outputs event book).answer (effect event book) tree in
       let turned : mid.clocks.tree ≡ after_tree = one.turned ∙ ap (λ (b : State). tree_after event (outputs event book).answer b tree) one.after in
@@ -65,8 +65,8 @@ module _ {O D : Type 0} (o : Sink.Ghosts O) (d : Device.Ghosts D) where
       let says : mid.outbox.answer ≡ clock_answer event bare.answer (effect event book) tree = ap (λ (p : Part). p.answer) is in
       let text = subst (λ (notices : Notices). WritesOn o (step_text n mid.outbox.done.items notices answer) so_far far old via) one.notices one.writes in
       let G : Kept → List Given = λ k. give k rest.answers cores in
-      let first : Kept → Answer → Given = λ k a. record { core = core_of event book; part = record { commands = bare.commands; kept = k; answer = heard modules event a } } in
-      let all : Kept → Answer → List Given = λ k a. first k a ∷ heard_cores modules (clocked_cores after_tree (G k)) in
+      let first : Kept → Answer → Given = λ k a. record { core = core_of event book; part = record { commands = bare.commands; kept = k; answer = completed modules event a } } in
+      let all : Kept → Answer → List Given = λ k a. first k a ∷ completed_cores modules (clocked_cores after_tree (G k)) in
       let moved : Chain d.Does (orders_of bare.commands) from between = subst (λ (commands : List Done). Chain d.Does (orders_of commands) from between) done one.given in
       record {
         answers = answers_in mid.outbox ∷ rest.answers;
@@ -76,15 +76,15 @@ module _ {O D : Type 0} (o : Sink.Ghosts O) (d : Device.Ghosts D) where
         given = subst (λ (k : Kept). Chain d.Does (orders_of bare.commands ++ orders_in_cores (G k)) from to) holds
             (Chain-append d.Does (orders_of bare.commands) (orders_in_cores (G mid.kept)) from between to moved rest.given);
         turned = subst (λ (k : Kept). then.clocks.tree ≡ tree_along (G k) after_tree) holds rest.turned;
-        replied = subst (λ (k : Kept). told ≡ reply_after (later_reply reply (heard modules event (clock_answer event bare.answer (effect event book) tree))) (heard_cores modules (clocked_cores after_tree (G k)))) holds
-            (subst (λ (a : Answer). told ≡ reply_after (later_reply reply (heard modules event a)) (heard_cores modules (clocked_cores after_tree (G mid.kept)))) says rest.replied);
+        replied = subst (λ (k : Kept). told ≡ reply_after (later_reply reply (completed modules event (clock_answer event bare.answer (effect event book) tree))) (completed_cores modules (clocked_cores after_tree (G k)))) holds
+            (subst (λ (a : Answer). told ≡ reply_after (later_reply reply (completed modules event a)) (completed_cores modules (clocked_cores after_tree (G mid.kept)))) says rest.replied);
         writes =
             let here : WritesOn o (step_text n bare.commands (notices_of (outputs event book)) answer) so_far far old via =
             subst (λ (commands : List Done). WritesOn o (step_text n commands (notices_of (outputs event book)) answer) so_far far old via) done text
             in
             subst (λ (k : Kept). WritesOn o (given_text n (all k (clock_answer event bare.answer (effect event book) tree))) so_far result old new) holds
             (subst (λ (a : Answer). WritesOn o (given_text n (all mid.kept a)) so_far result old new) says
-            (on-both o (step_text n bare.commands (notices_of (outputs event book)) answer) (given_text n (heard_cores modules (clocked_cores after_tree (G mid.kept)))) so_far far result old via new here rest.writes));
+            (on-both o (step_text n bare.commands (notices_of (outputs event book)) answer) (given_text n (completed_cores modules (clocked_cores after_tree (G mid.kept)))) so_far far result old via new here rest.writes));
       }
 
   -- part of the way: however the core events that are left are carried out, those of the whole line are carried out so, from where
@@ -124,7 +124,7 @@ module _ {O D : Type 0} (o : Sink.Ghosts O) (d : Device.Ghosts D) where
       → boxes_left taken.boxes rest ≡ boxes_left now.boxes left
       → mid.boxes ≡ taken.boxes → mid.clocks.told ≡ taken.clocks.told
       → RanCore o d n core taken.book taken.kept taken.clocks.tree mid modules so_far far old via dev between
-      → IsUnderWay n event modules rest start mid (later_reply reply (heard modules core mid.outbox.answer)) far first via begin between
+      → IsUnderWay n event modules rest start mid (later_reply reply (completed modules core mid.outbox.answer)) far first via begin between
   one_more n event core modules left rest start now taken mid reply so_far far first old via begin dev between way book kept clocks events boxes same tells one =
       let object : Object = start.book.fixed.object in
       let t : Topology = start.book.fixed.topology in

@@ -31,13 +31,13 @@ use Rattle.pm_replay.specs.declared.lines.Player.{Player}
 use Rattle.pm_drive.specs.Drive.{Driven, acts, acts_of, last_book, last_kept, orders_in_cores, rigs, until}
 use Rattle.pm_clock_tree.specs.Tree.{Tree}
 use Rattle.pm_drive.specs.Clocks.{clocked_by, clocked_line, last_tree, tree_along}
-use Rattle.pm_drive.specs.Heard.{heard_by, heard_line, last_board}
+use Rattle.pm_drive.specs.Completed.{completed_by, completed_line, last_board}
 use Rattle.pm_drive.specs.Text.{driven_text, given_text, notes_of, texts}
 use Rattle.pm_trace.specs.Notes.{notes_text}
 use Rattle.pm_engine.specs.Progress.{Progress, stand_in}
 use Rattle.pm_replay.specs.Plays.{Plays}
 use Rattle.pm_engine.specs.Writes.{WritesOn}
-use Rattle.pm_replay.specs.Within.{AreTold, RanLine, RanLines, Went, driven_from, heard_from}
+use Rattle.pm_replay.specs.Within.{AreTold, RanLine, RanLines, Went, driven_from, completed_from}
 use Rattle.pm_engine.proofs.WritesLemmas.{on-both}
 use Rattle.pm_replay.proofs.DriveLemmas.{driven_line, driven_next, until-cons}
 use Rattle.pm_replay.proofs.LeavesLemmas.{Leaves-before, Leaves-cons, behind}
@@ -67,7 +67,7 @@ module _ {O D : Type 0} (o : Sink.Ghosts O) (d : Device.Ghosts D) where
   -- lines of these events were run to their end, and the run and the board stand after them
   record RanAll (c : Setup) (n : ℕ) (events : List Event) (now then : Progress) (old new : O) (from to : D) (board is : Standing) : Type 0 where
     pub answers : List (List Bool)
-    pub went : Went o d (texts n (heard_from c board now answers events)) (driven_from c now answers events) None old new from to
+    pub went : Went o d (texts n (completed_from c board now answers events)) (driven_from c now answers events) None old new from to
     pub book : then.book ≡ last_book now.book (driven_from c now answers events)
     pub kept : then.kept ≡ last_kept now.kept (driven_from c now answers events)
     pub tree : then.clocks.tree ≡ last_tree now.clocks.tree (driven_from c now answers events)
@@ -77,7 +77,7 @@ module _ {O D : Type 0} (o : Sink.Ghosts O) (d : Device.Ghosts D) where
   record RanSome (c : Setup) (n : ℕ) (events : List Event) (now : Progress) (old new : O) (from to : D) (board is : Standing) : Type 0 where
     pub answers : List (List Bool)
     pub place : ℕ
-    pub went : Went o d (texts n (heard_from c board now answers events)) (driven_from c now answers events) (Some place) old new from to
+    pub went : Went o d (texts n (completed_from c board now answers events)) (driven_from c now answers events) (Some place) old new from to
     pub tasks_left : is ≡ last_board board (until (Some place) (driven_from c now answers events))
 
   RanAll-none : (c : Setup) (n : ℕ) (now : Progress) (old : O) (from : D) (board : Standing) → RanAll c n [] now now old old from from board board
@@ -90,10 +90,10 @@ module _ {O D : Type 0} (o : Sink.Ghosts O) (d : Device.Ghosts D) where
         Chain-append d.Does (rigs event) (orders_in_cores (driven_line c event now ran.cores.answers).cores) from ran.between to ran.rigged ran.cores.given
 
     -- all that was written of it
-    line_written : WritesOn o (driven_text n (heard_line board (clocked_line now.clocks.tree (driven_line c event now ran.cores.answers)))) (Ok tt) result old new
+    line_written : WritesOn o (driven_text n (completed_line board (clocked_line now.clocks.tree (driven_line c event now ran.cores.answers)))) (Ok tt) result old new
     line_written =
         let x : Driven = driven_line c event now ran.cores.answers in
-        let y : Driven = heard_line board (clocked_line now.clocks.tree x) in
+        let y : Driven = completed_line board (clocked_line now.clocks.tree x) in
         let chip : then.book.fixed.topology ≡ y.line.after.book.fixed.topology = ap (λ (b : State). b.fixed.topology) ran.cores.after in
         let P : Topology → Type 0 = λ t. WritesOn o (notes_text n (y.line.notes ++ called_note t event ran.told)) ran.far result ran.via new in
         let Q : Option Response → Type 0 = λ told. WritesOn o (notes_text n (y.line.notes ++ called_note y.line.after.book.fixed.topology event told)) ran.far result ran.via new in
@@ -113,15 +113,15 @@ module _ {O D : Type 0} (o : Sink.Ghosts O) (d : Device.Ghosts D) where
     next : (later : List (List Bool)) → driven_from c now (ran.cores.answers ++ later) (event ∷ events) ≡ driven_line c event now ran.cores.answers ∷ driven_from c mid later events
     next later = driven_next c event events now mid ran.cores.answers later ran.cores.fits ran.cores.after ran.boxes ran.cores.keeps
 
-    went_next : (later : List (List Bool)) (cut : Option ℕ) → Went o d (texts (n + 1) (heard_from c mid_board mid later events)) (driven_from c mid later events) cut via new between to → Went o d (texts n (heard_from c board now (ran.cores.answers ++ later) (event ∷ events))) (driven_from c now (ran.cores.answers ++ later) (event ∷ events)) (behind 1 cut) old new from to
+    went_next : (later : List (List Bool)) (cut : Option ℕ) → Went o d (texts (n + 1) (completed_from c mid_board mid later events)) (driven_from c mid later events) cut via new between to → Went o d (texts n (completed_from c board now (ran.cores.answers ++ later) (event ∷ events))) (driven_from c now (ran.cores.answers ++ later) (event ∷ events)) (behind 1 cut) old new from to
     went_next later cut went =
         let x : Driven = driven_line c event now ran.cores.answers in
         let ys : List Driven = driven_from c mid later events in
         let tree : Tree = now.clocks.tree in
-        let turned = subst (λ (t : Tree). Went o d (texts (n + 1) (heard_by mid_board (clocked_by t ys))) ys cut via new between to) ran.cores.turned went in
-        let rest = subst (λ (b : Standing). Went o d (texts (n + 1) (heard_by b (clocked_by (tree_along x.cores tree) ys))) ys cut via new between to) ran.tasks_left turned in
-        subst (λ (xs : List Driven). Went o d (texts n (heard_by board (clocked_by tree xs))) xs (behind 1 cut) old new from to) (sym (next later))
-        (Went-cons (driven_text n (heard_line board (clocked_line tree x))) x (texts (n + 1) (heard_by (board_after event board) (clocked_by (tree_along x.cores tree) ys))) ys cut old via new from between to (line_written c n event now mid old via from between board mid_board (Ok tt) ran) (line_given c n event now mid old via from between board mid_board (Ok tt) ran) rest)
+        let turned = subst (λ (t : Tree). Went o d (texts (n + 1) (completed_by mid_board (clocked_by t ys))) ys cut via new between to) ran.cores.turned went in
+        let rest = subst (λ (b : Standing). Went o d (texts (n + 1) (completed_by b (clocked_by (tree_along x.cores tree) ys))) ys cut via new between to) ran.tasks_left turned in
+        subst (λ (xs : List Driven). Went o d (texts n (completed_by board (clocked_by tree xs))) xs (behind 1 cut) old new from to) (sym (next later))
+        (Went-cons (driven_text n (completed_line board (clocked_line tree x))) x (texts (n + 1) (completed_by (board_after event board) (clocked_by (tree_along x.cores tree) ys))) ys cut old via new from between to (line_written c n event now mid old via from between board mid_board (Ok tt) ran) (line_given c n event now mid old via from between board mid_board (Ok tt) ran) rest)
 
     -- the board after the lines up to a cut
     board_next : (later : List (List Bool)) (cut : Option ℕ) → is ≡ last_board mid_board (until cut (driven_from c mid later events)) → is ≡ last_board board (until (behind 1 cut) (driven_from c now (ran.cores.answers ++ later) (event ∷ events)))
@@ -160,8 +160,8 @@ module _ {O D : Type 0} (o : Sink.Ghosts O) (d : Device.Ghosts D) where
       record {
         answers = ran.cores.answers ++ [];
         place = 0;
-        went = subst (λ (xs : List Driven). Went o d (texts n (heard_by board (clocked_by now.clocks.tree xs))) xs (Some 0) old new from to) (sym next)
-            (Went-broken (driven_text n (heard_line board (clocked_line now.clocks.tree x))) x (texts (n + 1) (heard_by (board_after event board) (clocked_by (tree_along x.cores now.clocks.tree) ys))) ys old new from to (line_written c n event now then old new from to board is (Err failed) ran) (line_given c n event now then old new from to board is (Err failed) ran));
+        went = subst (λ (xs : List Driven). Went o d (texts n (completed_by board (clocked_by now.clocks.tree xs))) xs (Some 0) old new from to) (sym next)
+            (Went-broken (driven_text n (completed_line board (clocked_line now.clocks.tree x))) x (texts (n + 1) (completed_by (board_after event board) (clocked_by (tree_along x.cores now.clocks.tree) ys))) ys old new from to (line_written c n event now then old new from to board is (Err failed) ran) (line_given c n event now then old new from to board is (Err failed) ran));
         tasks_left = ran.tasks_left ∙ sym (ap (λ (xs : List Driven). last_board board (until (Some 0) xs)) next);
       }
 

@@ -24,7 +24,7 @@ use Rattle.pm_trace.specs.Scripts.{IsScriptOf, at_end, fault_at, script_fault}
 use Rattle.pm_trace.proofs.ScriptsLemmas as scripts
 use Rattle.pm_drive.specs.Drive.{acts, until}
 use Rattle.pm_drive.specs.Drove.{Drove}
-use Rattle.pm_drive.specs.Heard.{heard_in, last_board}
+use Rattle.pm_drive.specs.Completed.{completed_in, last_board}
 use Rattle.pm_drive.specs.Scripts.{script_driven}
 use Rattle.pm_drive.specs.Text.{closing_after, texts}
 use Rattle.pm_replay.specs.Replay.{Touched, replay_report}
@@ -60,7 +60,7 @@ module _ {I O D : Type 0} (i : Inputs.Ghosts I) (o : Sink.Ghosts O) (d : Device.
             let held = scripts.held_whole i o script_itself (replay_report object t board) (of_script object t board) name w.inputs w'.inputs w.sink w'.sink result (IsScriptOf i name w.inputs w'.inputs result) (λ job asked. asked) (Touched d object t board is w.device w'.device) did s same seen done in
             let read : IsHeldWhole (i.state w.inputs) name s.events = held.1 in
             let steps = script_driven object t did.answers s.events in
-            let told : List (List ℕ) = texts 0 (heard_in (setup_for object t s.events) board steps) in
+            let told : List (List ℕ) = texts 0 (completed_in (setup_for object t s.events) board steps) in
             let all : (replay_report object t board s did.answers).body ≡ told ++ closing_after (setup_for object t s.events) steps ∷ [] =
             ap (λ (stop : Stop). told ++ at_end stop (closing_after (setup_for object t s.events) steps)) held.0
             in

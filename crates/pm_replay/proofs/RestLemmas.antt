@@ -48,13 +48,13 @@ use Rattle.pm_trace.specs.Report.{Report, Reports, exit_of, fault_lines, pieces,
 use Rattle.pm_trace.specs.Step.{Notices, core_text, notices_in, notices_of, step_text}
 use Rattle.pm_drive.specs.Drive.{Driven, Given, acts, acts_of, drive, driven, last_book, last_kept, until}
 use Rattle.pm_drive.specs.Clocks.{clock_note, clock_notes, clocked_by, first_tree, last_tree, table_text, tree_along, turned}
-use Rattle.pm_drive.specs.Heard.{heard_by, heard_in, last_board}
+use Rattle.pm_drive.specs.Completed.{completed_by, completed_in, last_board}
 use Rattle.pm_drive.specs.Text.{closing_after, texts}
 use Rattle.pm_trace.specs.Notes.{notes_text}
 use Rattle.pm_trace.specs.Scripts.{at_end, fault_at}
 use Rattle.pm_replay.specs.Replay.{run_report}
 use Rattle.pm_engine.specs.Progress.{AreOf, Progress}
-use Rattle.pm_replay.specs.Within.{IsLoaded, RanLines, RanRest, RanScript, Started, Went, closing_report, driven_from, heard_from, report_from, table_from}
+use Rattle.pm_replay.specs.Within.{IsLoaded, RanLines, RanRest, RanScript, Started, Went, closing_report, driven_from, completed_from, report_from, table_from}
 use Rattle.pm_replay.proofs.DriveLemmas.{until-cons}
 use Rattle.pm_replay.proofs.LeavesLemmas.{Leaves-append, Leaves-before, behind}
 
@@ -84,16 +84,16 @@ module _ {O : Type 0} (o : Sink.Ghosts O) where
 -- ---- what was driven before a cut that comes later
 
 -- what is told of lines are as many
-length-heard : (n : ℕ) (board : Standing) (xs : List Driven) → length (texts n (heard_by board xs)) ≡ length xs
-length-heard n board [] = refl
-length-heard n board (x ∷ xs) = ap suc (length-heard (n + 1) (board_after x.line.event board) xs)
+length-completed : (n : ℕ) (board : Standing) (xs : List Driven) → length (texts n (completed_by board xs)) ≡ length xs
+length-completed n board [] = refl
+length-completed n board (x ∷ xs) = ap suc (length-completed (n + 1) (board_after x.line.event board) xs)
 
 length-clocked : (tree : Tree) (xs : List Driven) → length (clocked_by tree xs) ≡ length xs
 length-clocked tree [] = refl
 length-clocked tree (x ∷ xs) = ap suc (length-clocked (tree_along x.cores tree) xs)
 
-length-told : (n : ℕ) (board : Standing) (tree : Tree) (xs : List Driven) → length (texts n (heard_by board (clocked_by tree xs))) ≡ length xs
-length-told n board tree xs = length-heard n board (clocked_by tree xs) ∙ length-clocked tree xs
+length-told : (n : ℕ) (board : Standing) (tree : Tree) (xs : List Driven) → length (texts n (completed_by board (clocked_by tree xs))) ≡ length xs
+length-told n board tree xs = length-completed n board (clocked_by tree xs) ∙ length-clocked tree xs
 
 pub until-past : {X : Type 0} (m : ℕ) (cut : Option ℕ) (xs : List X) → length xs ≤ m → until (behind m cut) xs ≡ xs
 until-past m None xs long = refl
@@ -161,10 +161,10 @@ none_turned tree = by clocks
 
 module _ {O D : Type 0} (o : Sink.Ghosts O) (d : Device.Ghosts D) where
   -- lines were all carried out or one is bad, and after a report was written
-  rest_by : (c : Setup) (n : ℕ) (s : Script) (now : Progress) (old mid new : O) (from to : D) (board is : Standing) (exit : Exit) (answers : List (List Bool)) (cut : Option ℕ) (r : Report) → Went o d (texts n (heard_from c board now answers s.events)) (driven_from c now answers s.events) cut old mid from to → cut ≡ None → is ≡ last_board board (until cut (driven_from c now answers s.events)) → Reports o r mid new exit → report_from c board n now s answers ≡ report_after (texts n (heard_from c board now answers s.events)) r → RanRest o d c n s now old new from to board is exit
+  rest_by : (c : Setup) (n : ℕ) (s : Script) (now : Progress) (old mid new : O) (from to : D) (board is : Standing) (exit : Exit) (answers : List (List Bool)) (cut : Option ℕ) (r : Report) → Went o d (texts n (completed_from c board now answers s.events)) (driven_from c now answers s.events) cut old mid from to → cut ≡ None → is ≡ last_board board (until cut (driven_from c now answers s.events)) → Reports o r mid new exit → report_from c board n now s answers ≡ report_after (texts n (completed_from c board now answers s.events)) r → RanRest o d c n s now old new from to board is exit
   rest_by c n s now old mid new from to board is exit answers cut r went whole left reports same =
       let xs : List Driven = driven_from c now answers s.events in
-      let done : List (List ℕ) = texts n (heard_by board (clocked_by now.clocks.tree xs)) in
+      let done : List (List ℕ) = texts n (completed_by board (clocked_by now.clocks.tree xs)) in
       let wrote : Wrote o.observable (concat done) (o.state old) (o.state mid) = subst (λ (cut : Option ℕ). Leaves o done cut old mid) whole went.left in
       let given : Chain d.Does (acts xs) from to = subst (λ (cut : Option ℕ). Chain d.Does (acts (until cut xs)) from to) whole went.given in
       let after : is ≡ last_board board xs = subst (λ (cut : Option ℕ). is ≡ last_board board (until cut xs)) whole left in
@@ -184,7 +184,7 @@ module _ {O D : Type 0} (o : Sink.Ghosts O) (d : Device.Ghosts D) where
   pub RanRest-closed : (c : Setup) (n : ℕ) (s : Script) (r : StopReason) (now after : Progress) (old mid new : O) (from to : D) (board is : Standing) (exit : Exit) (count : ℕ) → RanLines o d c n s now after old mid from to board is (Ok (record { count = count; stop = r })) → Reports o (closing_report (stop_of r) after.book after.kept after.clocks.tree) mid new exit → RanRest o d c n s now old new from to board is exit
   RanRest-closed c n s r now after old mid new from to board is exit count ran reports =
       let xs : List Driven = driven_from c now ran.answers s.events in
-      let done : List (List ℕ) = texts n (heard_by board (clocked_by now.clocks.tree xs)) in
+      let done : List (List ℕ) = texts n (completed_by board (clocked_by now.clocks.tree xs)) in
       let number : ℕ = n + length s.events in
       let whole = ran.ends.0 in
       let stop : s.stop ≡ stop_of r = ran.ends.1 in
@@ -204,7 +204,7 @@ module _ {O D : Type 0} (o : Sink.Ghosts O) (d : Device.Ghosts D) where
   pub RanRest-bad : (c : Setup) (n m : ℕ) (cause : LineFault) (s : Script) (now after : Progress) (old mid new : O) (from to : D) (board is : Standing) (exit : Exit) → RanLines o d c n s now after old mid from to board is (Err (stops.Bad m cause)) → Reports o (refusal (Line m cause)) mid new exit → RanRest o d c n s now old new from to board is exit
   RanRest-bad c n m cause s now after old mid new from to board is exit ran reports =
       let xs : List Driven = driven_from c now ran.answers s.events in
-      let done : List (List ℕ) = texts n (heard_by board (clocked_by now.clocks.tree xs)) in
+      let done : List (List ℕ) = texts n (completed_by board (clocked_by now.clocks.tree xs)) in
       let table : List ℕ = table_from now xs in
       let same : report_from c board n now s ran.answers ≡ report_after done (refusal (Line m cause)) =
       ap (λ (stop : Stop). record { body = done ++ at_end stop table; fault = fault_at (n + length s.events) stop }) ran.ends.1
@@ -216,7 +216,7 @@ module _ {O D : Type 0} (o : Sink.Ghosts O) (d : Device.Ghosts D) where
   pub RanRest-broken : (c : Setup) (n : ℕ) (s : Script) (now after : Progress) (old new : O) (from to : D) (board is : Standing) → RanLines o d c n s now after old new from to board is (Err stops.Broken) → RanRest o d c n s now old new from to board is WriteFault
   RanRest-broken c n s now after old new from to board is ran =
       let xs : List Driven = driven_from c now ran.answers s.events in
-      let done : List (List ℕ) = texts n (heard_by board (clocked_by now.clocks.tree xs)) in
+      let done : List (List ℕ) = texts n (completed_by board (clocked_by now.clocks.tree xs)) in
       let r : Report = report_from c board n now s ran.answers in
       let k : ℕ = ran.ends.0 in
       let tail : List (List ℕ) = at_end s.stop (table_from now xs) in
@@ -277,13 +277,13 @@ module _ {O D : Type 0} (o : Sink.Ghosts O) (d : Device.Ghosts D) where
       let next_is : next ≡ tree = load_stands now loaded in
       let number : ℕ = 1 + length s.events in
       let text : List Note → List ℕ = λ turns. (core_text 0 (outputs_at_load load) Q ++ []) ++ notes_text 0 ((turns ++ []) ++ []) in
-      let told : Tree → List (List ℕ) = λ t. texts 1 (heard_by (board_after Pass board) (clocked_by t ys)) in
+      let told : Tree → List (List ℕ) = λ t. texts 1 (completed_by (board_after Pass board) (clocked_by t ys)) in
       let table : State → Tree → List ℕ = λ b t. table_text (last_book b ys) (last_kept after.kept ys) (last_tree t ys) in
       let whole : List Note → Tree → Report = λ turns t. record { body = text turns ∷ (told t ++ at_end s.stop (table load t)); fault = fault_at number s.stop } in
       let none : clock_notes tree (g ∷ []) ≡ [] = ap (λ (t : Tree). map clock_note (turned tree t)) next_is ∙ ap (map clock_note) (none_turned tree) in
       let here : next ≡ after.clocks.tree = next_is ∙ sym (ap (λ (it : Clocked). it.tree) started.clocks ∙ tree_at_load now loaded) in
       let at : Tree = after.clocks.tree in
-      ap (λ (xs : List Driven). record { body = texts 0 (heard_in c board xs) ++ at_end s.stop (closing_after c xs); fault = fault_at number s.stop }) (driven_first now after s.events later from to loaded started)
+      ap (λ (xs : List Driven). record { body = texts 0 (completed_in c board xs) ++ at_end s.stop (closing_after c xs); fault = fault_at number s.stop }) (driven_first now after s.events later from to loaded started)
       ∙ ap (λ (turns : List Note). whole turns next) none
       ∙ ap (whole []) here
       ∙ ap (λ (text : List ℕ). record { body = text ∷ (told at ++ at_end s.stop (table load at)); fault = fault_at number s.stop }) (append-nil (core_text 0 (outputs_at_load load) Q ++ []) ∙ append-nil (core_text 0 (outputs_at_load load) Q))

@@ -12,7 +12,7 @@ use Rattle.pm_trace.specs.Report.{Report}
 use Rattle.pm_trace.specs.Scripts.{at_end, fault_at}
 use Rattle.pm_drive.specs.Drive.{driven, until}
 use Rattle.pm_drive.specs.Drove.{Drove}
-use Rattle.pm_drive.specs.Heard.{heard_in, last_board}
+use Rattle.pm_drive.specs.Completed.{completed_in, last_board}
 use Rattle.pm_drive.specs.Scripts.{script_driven}
 use Rattle.pm_drive.specs.Text.{closing_after, texts}
 
@@ -20,7 +20,7 @@ use Rattle.pm_drive.specs.Text.{closing_after, texts}
 -- they came to their end
 abbrev pub run_report : Setup → Standing → Script → List (List Bool) → Report
 run_report c board s answers = record {
-  body = texts 0 (heard_in c board (driven c answers s.events)) ++ at_end s.stop (closing_after c (driven c answers s.events));
+  body = texts 0 (completed_in c board (driven c answers s.events)) ++ at_end s.stop (closing_after c (driven c answers s.events));
   fault = fault_at (1 + length s.events) s.stop;
 }
 

@@ -24,7 +24,7 @@ use Rattle.pm_drive.specs.Lowered.{HaveSameSteps, lowered_script}
 use Rattle.pm_drive.specs.PowerCalls.{EachCallIsItsEvents}
 use Rattle.pm_drive.specs.Calls.{CallsAreTold}
 use Rattle.pm_drive.specs.Followed.{ClocksStand}
-use Rattle.pm_drive.specs.Heard.{heard_in, last_board}
+use Rattle.pm_drive.specs.Completed.{completed_in, last_board}
 use Rattle.pm_drive.specs.Scripts.{script_driven, script_text}
 use Rattle.pm_apart.specs.Apart.{KeepsApart, StepsKeepApart}
 use Rattle.pm_replay.specs.Replay.{Touched, replay_report}
@@ -86,7 +86,8 @@ pub record LowersCalls (object : Object) (t : Topology) : Type 0 where
 abbrev pub TellsCalls : Object → Topology → Standing → Type 0
 TellsCalls object t board =
     (events : List Event) (answers : List (List Bool)) (cut : Option ℕ)
-    → CallsAreTold (heard_in (setup_for object t events) board (until cut (script_driven object t answers events))) board
+    → CallsAreTold
+    (completed_in (setup_for object t events) board (until cut (script_driven object t answers events))) board
     (last_board board (until cut (script_driven object t answers events))).tasks
 
 -- in each run, at its load and after each core step: the clock tree is the one before with the call on a clock that was made in the

@@ -34,7 +34,7 @@ use Rattle.pm_trace.specs.Step.{notices_in, notices_of, step_text}
 use Rattle.pm_trace.specs.Scripts.{at_end, fault_at}
 use Rattle.pm_drive.specs.Drive.{Driven, Given, acts, drive, driven, give, kept_after, last_book, last_kept, orders_in_cores, rigs, until}
 use Rattle.pm_drive.specs.Clocks.{clock_notes, clocked_by, clocked_cores, clocked_part, last_tree, table_text, tree_along}
-use Rattle.pm_drive.specs.Heard.{heard, heard_by, heard_cores, last_board}
+use Rattle.pm_drive.specs.Completed.{completed, completed_by, completed_cores, last_board}
 use Rattle.pm_drive.specs.Tasks.{task_notes}
 use Rattle.pm_drive.specs.Text.{given_text, reply_after, texts}
 use Rattle.pm_engine.specs.Progress.{AreOf, Progress, stand_in}
@@ -77,8 +77,9 @@ abbrev pub given_from : Setup → Event → Progress → List (List Bool) → Li
 given_from c event now answers = give now.kept answers (cores_of (split c event (stand_in now)).events now.book)
 
 -- what is told of lines from where a run stands, the first of which finds a board so
-abbrev pub heard_from : Setup → Standing → Progress → List (List Bool) → List Event → List Driven
-heard_from c board now answers events = heard_by board (clocked_by now.clocks.tree (driven_from c now answers events))
+abbrev pub completed_from : Setup → Standing → Progress → List (List Bool) → List Event → List Driven
+completed_from c board now answers events =
+    completed_by board (clocked_by now.clocks.tree (driven_from c now answers events))
 
 -- the closing table after these lines
 abbrev pub table_from : Progress → List Driven → List ℕ
@@ -87,7 +88,7 @@ table_from now xs = table_text (last_book now.book xs) (last_kept now.kept xs) (
 -- what is written of lines, the first of which has number n and finds a board so, and after them
 abbrev pub report_from : Setup → Standing → ℕ → Progress → Script → List (List Bool) → Report
 report_from c board n now s answers = record {
-  body = texts n (heard_from c board now answers s.events) ++ at_end s.stop (table_from now (driven_from c now answers s.events));
+  body = texts n (completed_from c board now answers s.events) ++ at_end s.stop (table_from now (driven_from c now answers s.events));
   fault = fault_at (n + length s.events) s.stop;
 }
 
@@ -115,7 +116,7 @@ module _ {O D : Type 0} (o : Sink.Ghosts O) (d : Device.Ghosts D) where
     pub turned : then.clocks.tree ≡ tree_after event (outputs event book).answer then.book tree
     pub notices : notices_in then.outbox ≡ notices_of (outputs event book)
     pub given : Chain d.Does (orders_in then.outbox) from to
-    pub writes : WritesOn o (step_text n then.outbox.done.items (notices_in then.outbox) (heard modules event then.outbox.answer)) so_far result old new
+    pub writes : WritesOn o (step_text n then.outbox.done.items (notices_in then.outbox) (completed modules event then.outbox.answer)) so_far result old new
 
   -- the same of core events one after another, whatever becomes of their text, from the last reply that was told before
   -- them to the last one that is told
@@ -127,8 +128,8 @@ module _ {O D : Type 0} (o : Sink.Ghosts O) (d : Device.Ghosts D) where
     pub keeps : then.kept ≡ kept_after kept (give kept answers (cores_of events book))
     pub given : Chain d.Does (orders_in_cores (give kept answers (cores_of events book))) from to
     pub turned : then.clocks.tree ≡ tree_along (give kept answers (cores_of events book)) tree
-    pub replied : told ≡ reply_after reply (heard_cores modules (clocked_cores tree (give kept answers (cores_of events book))))
-    pub writes : WritesOn o (given_text n (heard_cores modules (clocked_cores tree (give kept answers (cores_of events book))))) so_far result old new
+    pub replied : told ≡ reply_after reply (completed_cores modules (clocked_cores tree (give kept answers (cores_of events book))))
+    pub writes : WritesOn o (given_text n (completed_cores modules (clocked_cores tree (give kept answers (cores_of events book))))) so_far result old new
 
   -- a line was carried out to its end: first a node was broken or mended, if it asks for that, and then its core events
   -- followed. Its text was written as far as the sink took it, with the notes of clocks and of tasks and the answer to its power
@@ -165,7 +166,7 @@ module _ {O D : Type 0} (o : Sink.Ghosts O) (d : Device.Ghosts D) where
       (board is : Standing) (result : Result reader.LinesEnd LineStop) : Type 0 where
     pub answers : List (List Bool)
     pub cut : Option ℕ
-    pub went : Went (texts n (heard_from c board now answers s.events)) (driven_from c now answers s.events) cut old new from to
+    pub went : Went (texts n (completed_from c board now answers s.events)) (driven_from c now answers s.events) cut old new from to
     pub ends : LinesEnd n s now (driven_from c now answers s.events) cut then result
     pub tasks_left : is ≡ last_board board (until cut (driven_from c now answers s.events))
 

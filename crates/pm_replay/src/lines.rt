@@ -10,7 +10,7 @@ ghost use Rattle.pm_reader.specs.Front.{Ahead, Attaches, WasReadAhead, ran};
 ghost use Rattle.pm_run.specs.Run.{Setup, setup_of};
 ghost use Rattle.pm_modules.specs.Modules.{ranges};
 ghost use Rattle.pm_board.specs.Standing.{standing};
-ghost use Rattle.pm_drive.specs.Heard.{heard};
+ghost use Rattle.pm_drive.specs.Completed.{completed};
 ghost use Rattle.pm_drive.specs.Text.{later_reply};
 ghost use Rattle.pm_trace.specs.Step.{notices_in, step_text};
 ghost use Rattle.pm_engine.specs.Writes.{Writes};
@@ -163,14 +163,14 @@ fn run_alone<O: Sink, D: Device, H: Responder, T: Handler>(
         (standing H.Responder T.Handler modules.now tasks.new) result }
 {
     engine.step(event, dev);
-    let written = write_heard(number, event, engine.outbox(), modules, text, out);
+    let written = write_completed(number, event, engine.outbox(), modules, text, out);
     let clocked = clocks_on(written, number, engine, out);
     tasks_on(clocked, number, event, tasks, out)
 }
 
 /// Writes the lines of the core step of an event, with its answer as it is told.
 #[inline(always)]
-fn write_heard<O: Sink, H: Responder>(
+fn write_completed<O: Sink, H: Responder>(
     number: u32,
     event: &Event,
     outbox: &Outbox,
@@ -179,7 +179,7 @@ fn write_heard<O: Sink, H: Responder>(
     out: &mut O,
 ) -> Result<(), Failed>
     ensures { Writes O.Sink (step_text number outbox.now.done.items (notices_in outbox.now)
-        (heard (ranges H.Responder modules.now) event.now outbox.now.answer)) out.old out.new result }
+        (completed (ranges H.Responder modules.now) event.now outbox.now.answer)) out.old out.new result }
 {
     match said(modules, event, &outbox.answer) {
         None => write_step(number, outbox, &outbox.answer, text, out),
@@ -217,7 +217,7 @@ fn run_split<O: Sink, D: Device, H: Responder, T: Handler>(
         let taken = core.event(made);
         engine.step(taken, dev);
         let outbox = engine.outbox();
-        let answer = heard(modules, taken, &outbox.answer);
+        let answer = completed(modules, taken, &outbox.answer);
         written = write_on(written, number, outbox, &answer, text, out);
         reply = later_reply(reply, &answer);
     }
@@ -230,15 +230,15 @@ fn run_split<O: Sink, D: Device, H: Responder, T: Handler>(
 
 /// The answer to a core event as it is told: where the book replies to a message whose API word is a module's, what the
 /// module says stands in place of the reply.
-fn heard<H: Responder>(modules: &ModulesOf<H>, event: &Event, answer: &Answer) -> Answer
-    ensures { result ≡ heard (ranges H.Responder modules.now) event.now answer.now }
+fn completed<H: Responder>(modules: &ModulesOf<H>, event: &Event, answer: &Answer) -> Answer
+    ensures { result ≡ completed (ranges H.Responder modules.now) event.now answer.now }
 {
     said(modules, event, answer).unwrap_or(*answer)
 }
 
 /// The answer to a core event, where a module says it.
 fn said<H: Responder>(modules: &ModulesOf<H>, event: &Event, answer: &Answer) -> Option<Answer>
-    ensures { heard (ranges H.Responder modules.now) event.now answer.now ≡ unwrap_or result answer.now }
+    ensures { completed (ranges H.Responder modules.now) event.now answer.now ≡ unwrap_or result answer.now }
 {
     match (event, answer) {
         (Event::Ipi { message, .. }, Answer::Reply { master, .. }) => {

@@ -15,7 +15,7 @@ use Rattle.pm_trace.specs.Report.{Reports, refusal}
 use Rattle.pm_drive.specs.Drive.{until}
 use Rattle.pm_drive.specs.Drove.{Drove}
 use Rattle.pm_board.specs.Board.{Standing}
-use Rattle.pm_drive.specs.Heard.{last_board}
+use Rattle.pm_drive.specs.Completed.{last_board}
 use Rattle.pm_drive.specs.Scripts.{script_driven, script_text}
 use Rattle.pm_top.specs.Within.{one_piece}
 

@@ -14,7 +14,7 @@ use Rattle.pm_topology.specs.WellFormed.{IsWellFormed}
 use Rattle.pm_device.specs.declared.device.Device as Device
 use Rattle.pm_drive.specs.Drove.{Drove}
 use Rattle.pm_board.specs.Board.{Standing}
-use Rattle.pm_drive.specs.Heard.{last_board}
+use Rattle.pm_drive.specs.Completed.{last_board}
 use Rattle.pm_gen.specs.Laboratory.{laboratory}
 use Rattle.pm_script.specs.Script.{script_limit}
 use Rattle.pm_trace.specs.declared.faults.Fault.{Fault}

@@ -4,7 +4,7 @@ use Rattle.std.proofs.Common.{List}
 use Rattle.pm_topology.specs.WellFormed.{IsWellFormed}
 use Rattle.pm_run.specs.Run.{Setup, fixed_of}
 use Rattle.pm_drive.specs.Drive.{driven, until}
-use Rattle.pm_drive.specs.Heard.{heard_in}
+use Rattle.pm_drive.specs.Completed.{completed_in}
 use Rattle.pm_apart.specs.Apart.{BooksStayApart}
 use Rattle.pm_apart.proofs.TellingLaw.{telling_apart}
 use Rattle.pm_apart.proofs.laws.driven_runs_keep_apart.Goals as goal
@@ -25,7 +25,7 @@ returns g c =
         telling = λ m. telling_apart cs m events (law.alike cs m events object formed) (c.clocks_keep_apart.ensures.lines cs m events object formed);
       };
       steps = λ cs events answers cut old new object formed drove. record {
-        lines = λ board. c.texts_are_lines.ensures.steps 0 (heard_in cs board (until cut (driven cs answers events)));
+        lines = λ board. c.texts_are_lines.ensures.steps 0 (completed_in cs board (until cut (driven cs answers events)));
         apart = λ none. c.driven_lines_stay_apart.ensures.steps cs events answers cut old new object formed none drove;
         beyond = λ m. beyond cs events m object formed;
         telling = λ m. telling_apart cs m events (law.alike cs m events object formed) (c.clocks_keep_apart.ensures.lines cs m events object formed);

@@ -6,7 +6,7 @@ use Rattle.pm_run.specs.Run.{book_after}
 use Rattle.pm_trace.specs.Notes.{notes_text}
 use Rattle.pm_drive.specs.Clocks.{clock_notes, clocked_cores}
 use Rattle.pm_drive.specs.Drive.{Given}
-use Rattle.pm_drive.specs.Heard.{heard_cores}
+use Rattle.pm_drive.specs.Completed.{completed_cores}
 use Rattle.pm_drive.specs.PowerCalls.{events_of_call, given_of_call}
 use Rattle.pm_drive.specs.Text.{given_text, reply_after}
 use Rattle.pm_drive.proofs.UnsaidLaw.{call_unasked, call_unsaid}
@@ -21,8 +21,8 @@ returns c = λ setup proc function args stand kept answers.
       boxes = refl;
       commands = refl;
       text = λ n. refl;
-      heard = λ board tree n.
-          let told : List Given = heard_cores board.modules (clocked_cores tree given) in
+      completed = λ board tree n.
+          let told : List Given = completed_cores board.modules (clocked_cores tree given) in
           let last : List Note = noted_answer proc (answered (book_after (events_of_call setup proc function args stand kept answers) stand.book).fixed.topology
           (call proc function args) (reply_after None told)) in
           ap (λ (notes : List Note). given_text n told ++ notes_text n (notes ++ last)) (append-nil (clock_notes tree given));

@@ -17,7 +17,7 @@ use Rattle.pm_split.specs.Split.{Note, called_note, noted, noted_call}
 use Rattle.pm_run.specs.Run.{setup_of, split}
 use Rattle.pm_trace.specs.Step.{notices_in, step_text}
 use Rattle.pm_drive.specs.Clocks.{clock_note}
-use Rattle.pm_drive.specs.Heard.{heard}
+use Rattle.pm_drive.specs.Completed.{completed}
 use Rattle.pm_drive.specs.Tasks.{task_notes}
 use Rattle.pm_drive.specs.Text.{later_reply}
 use Rattle.pm_engine.specs.Progress.{Progress, stand_in}
@@ -42,19 +42,19 @@ loop-core-preserved g c =
     let shown : Outbox = c.outbox-outbox.result.now in
     let taken = c.next.new.self in
     let W : Answer → Type 0 = λ answer. WritesOn g.O.Sink (step_text c.args.number shown.done.items (notices_in shown) answer) c.loop-core.written c.write_on-written.result c.loop-core.out c.write_on-written.new.out in
-    let V : Outbox → Type 0 = λ outbox. WritesOn g.O.Sink (step_text c.args.number outbox.done.items (notices_in outbox) (heard modules core outbox.answer)) c.loop-core.written c.write_on-written.result c.loop-core.out c.write_on-written.new.out in
+    let V : Outbox → Type 0 = λ outbox. WritesOn g.O.Sink (step_text c.args.number outbox.done.items (notices_in outbox) (completed modules core outbox.answer)) c.loop-core.written c.write_on-written.result c.loop-core.out c.write_on-written.new.out in
     let one : RanCore g.O.Sink g.D.Device c.args.number core taken.book taken.kept taken.clocks.tree c.step.new.self modules c.loop-core.written c.write_on-written.result c.loop-core.out c.write_on-written.new.out c.loop-core.dev c.step.new.dev = record {
       after = c.step.ensures.book;
       part = c.step.ensures.goes.part;
       turned = ap (λ (it : Clocked). it.tree) c.step.ensures.goes.clocks;
       notices = c.step.ensures.notices;
       given = c.step.ensures.given;
-      writes = subst V c.outbox-outbox.ensures (subst W c.heard-answer.ensures c.write_on-written.ensures);
+      writes = subst V c.outbox-outbox.ensures (subst W c.completed-answer.ensures c.write_on-written.ensures);
     }
     in
-    let told : later_reply c.loop-core.reply (heard modules core c.step.new.self.outbox.answer) ≡ c.later_reply-reply.result =
-    ap (λ (outbox : Outbox). later_reply c.loop-core.reply (heard modules core outbox.answer)) (sym c.outbox-outbox.ensures)
-    ∙ (ap (λ (answer : Answer). later_reply c.loop-core.reply answer) (sym c.heard-answer.ensures) ∙ sym c.later_reply-reply.ensures)
+    let told : later_reply c.loop-core.reply (completed modules core c.step.new.self.outbox.answer) ≡ c.later_reply-reply.result =
+    ap (λ (outbox : Outbox). later_reply c.loop-core.reply (completed modules core outbox.answer)) (sym c.outbox-outbox.ensures)
+    ∙ (ap (λ (answer : Answer). later_reply c.loop-core.reply answer) (sym c.completed-answer.ensures) ∙ sym c.later_reply-reply.ensures)
     in
     let P : Option Response → Type 0 = λ reply. IsUnderWay g.O.Sink g.D.Device c.args.number c.args.event.now modules c.next.new.cores c.args.engine.now c.step.new.self reply
     c.write_on-written.result c.args.out.now c.write_on-written.new.out c.rig.new.dev c.step.new.dev

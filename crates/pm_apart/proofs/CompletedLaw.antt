@@ -31,7 +31,7 @@ use Rattle.pm_trace.specs.Notes.{note_words}
 use Rattle.pm_trace.specs.Step.{answer_line, late_line, notices_of, step_words, told_lines}
 use Rattle.pm_drive.specs.Clocks.{clock_note, clock_notes, clocked, clocked_by, clocked_core, clocked_cores, clocked_line, first_tree, tree_after_core, tree_along, turned}
 use Rattle.pm_drive.specs.Drive.{Driven, Given}
-use Rattle.pm_drive.specs.Heard.{heard, heard_by, heard_core, heard_cores, heard_in, heard_line}
+use Rattle.pm_drive.specs.Completed.{completed, completed_by, completed_core, completed_cores, completed_in, completed_line}
 use Rattle.pm_drive.specs.Tasks.{fired_note, key_notes, refusal_notes, task_notes}
 use Rattle.pm_drive.specs.Text.{notes_of, reply_after}
 use Rattle.pm_apart.specs.Lines.{driven_lines, given_lines, is_about, note_lines, numbered, step_lines}
@@ -76,7 +76,7 @@ module _ (p : List Word → Bool) (deaf : IsDeaf p) where
         ∙ ap (filter p) (sym (made_twice step_words (numbered n) (told_lines g.part.commands (notices_of g.core.outputs) g.part.answer))))
 
     answer_alike : (modules : List Ranged) (event : Event) (answer : Answer)
-        → filter p (map (told_line n) (option_to_list (answer_line (heard modules event answer))))
+        → filter p (map (told_line n) (option_to_list (answer_line (completed modules event answer))))
         ≡ filter p (map (told_line n) (option_to_list (answer_line answer)))
     answer_alike modules (Ipi sender message) (Reply master response) =
         let said : Response = unwrap_or (said_by modules message) response in
@@ -84,14 +84,14 @@ module _ (p : List Word → Bool) (deaf : IsDeaf p) where
         ∙ sym (left_out p (told_line n (told.Reply master response)) [] (deaf.replies n master response))
     answer_alike modules event answer = refl
 
-    given_alike : (modules : List Ranged) (g : Given) → filter p (given_lines n (heard_core modules g)) ≡ filter p (given_lines n g)
-    given_alike modules g = with_answer g (heard modules g.core.event g.part.answer) (answer_alike modules g.core.event g.part.answer)
+    given_alike : (modules : List Ranged) (g : Given) → filter p (given_lines n (completed_core modules g)) ≡ filter p (given_lines n g)
+    given_alike modules g = with_answer g (completed modules g.core.event g.part.answer) (answer_alike modules g.core.event g.part.answer)
 
     cores_alike : (modules : List Ranged) (given : List Given)
-        → filter p (flat_map (given_lines n) (heard_cores modules given)) ≡ filter p (flat_map (given_lines n) given)
+        → filter p (flat_map (given_lines n) (completed_cores modules given)) ≡ filter p (flat_map (given_lines n) given)
     cores_alike modules [] = refl
     cores_alike modules (g ∷ given) =
-        parts_alike p (given_lines n (heard_core modules g)) (flat_map (given_lines n) (heard_cores modules given))
+        parts_alike p (given_lines n (completed_core modules g)) (flat_map (given_lines n) (completed_cores modules given))
         (given_lines n g) (flat_map (given_lines n) given) (given_alike modules g) (cores_alike modules given)
 
     -- with the reply of the clocks
@@ -161,10 +161,10 @@ module _ (p : List Word → Bool) (deaf : IsDeaf p) where
         none_after p (noted_line n) (own ++ more) (called_note t event new) (none_called t event new)
         ∙ (none_after p (noted_line n) own more none ∙ sym (none_after p (noted_line n) own (called_note t event old) (none_called t event old)))
 
-    notes_alike : (board : Standing) (x : Driven) → filter p (note_lines n (notes_of (heard_line board x))) ≡ filter p (note_lines n (notes_of x))
+    notes_alike : (board : Standing) (x : Driven) → filter p (note_lines n (notes_of (completed_line board x))) ≡ filter p (note_lines n (notes_of x))
     notes_alike board x =
         with_notes x.line.notes (task_notes x.line.event board.tasks) x.line.after.book.fixed.topology x.line.event
-        (reply_after None (heard_cores board.modules x.cores)) (reply_after None x.cores) (none_of_tasks x.line.event board.tasks)
+        (reply_after None (completed_cores board.modules x.cores)) (reply_after None x.cores) (none_of_tasks x.line.event board.tasks)
 
     turns_alike : (tree : Tree) (x : Driven) → filter p (note_lines n (notes_of (clocked_line tree x))) ≡ filter p (note_lines n (notes_of x))
     turns_alike tree x =
@@ -173,9 +173,9 @@ module _ (p : List Word → Bool) (deaf : IsDeaf p) where
 
     -- ---- of a script line
 
-    line_alike : (board : Standing) (x : Driven) → filter p (driven_lines n (heard_line board x)) ≡ filter p (driven_lines n x)
+    line_alike : (board : Standing) (x : Driven) → filter p (driven_lines n (completed_line board x)) ≡ filter p (driven_lines n x)
     line_alike board x =
-        parts_alike p (flat_map (given_lines n) (heard_cores board.modules x.cores)) (note_lines n (notes_of (heard_line board x)))
+        parts_alike p (flat_map (given_lines n) (completed_cores board.modules x.cores)) (note_lines n (notes_of (completed_line board x)))
         (flat_map (given_lines n) x.cores) (note_lines n (notes_of x)) (cores_alike board.modules x.cores) (notes_alike board x)
 
     clock_line_alike : (tree : Tree) (x : Driven) → filter p (driven_lines n (clocked_line tree x)) ≡ filter p (driven_lines n x)
@@ -185,11 +185,11 @@ module _ (p : List Word → Bool) (deaf : IsDeaf p) where
 
   -- ---- of all of them
 
-  board_alike : (board : Standing) (n : ℕ) (xs : List Driven) → filter p (step_lines n (heard_by board xs)) ≡ filter p (step_lines n xs)
+  board_alike : (board : Standing) (n : ℕ) (xs : List Driven) → filter p (step_lines n (completed_by board xs)) ≡ filter p (step_lines n xs)
   board_alike board n [] = refl
   board_alike board n (x ∷ xs) =
       let after : Standing = board_after x.line.event board in
-      parts_alike p (driven_lines n (heard_line board x)) (step_lines (n + 1) (heard_by after xs)) (driven_lines n x) (step_lines (n + 1) xs)
+      parts_alike p (driven_lines n (completed_line board x)) (step_lines (n + 1) (completed_by after xs)) (driven_lines n x) (step_lines (n + 1) xs)
       (line_alike n board x) (board_alike after (n + 1) xs)
 
   clocks_alike : (tree : Tree) (n : ℕ) (xs : List Driven) → filter p (step_lines n (clocked_by tree xs)) ≡ filter p (step_lines n xs)
@@ -200,13 +200,13 @@ module _ (p : List Word → Bool) (deaf : IsDeaf p) where
       (clock_line_alike n tree x) (clocks_alike after (n + 1) xs)
 
   -- with the clocks and a board
-  pub heard_alike : (c : Setup) (board : Standing) (xs : List Driven) → filter p (step_lines 0 (heard_in c board xs)) ≡ filter p (step_lines 0 xs)
-  heard_alike c board xs = board_alike board 0 (clocked c xs) ∙ clocks_alike (first_tree c) 0 xs
+  pub completed_alike : (c : Setup) (board : Standing) (xs : List Driven) → filter p (step_lines 0 (completed_in c board xs)) ≡ filter p (step_lines 0 xs)
+  completed_alike c board xs = board_alike board 0 (clocked c xs) ∙ clocks_alike (first_tree c) 0 xs
 
   -- so what is the same of two runs without a board and clocks is so with them, whatever two boards they begin with
   pub boards_alike : (c : Setup) (board other : Standing) (xs ys : List Driven) → filter p (step_lines 0 xs) ≡ filter p (step_lines 0 ys)
-      → filter p (step_lines 0 (heard_in c board xs)) ≡ filter p (step_lines 0 (heard_in c other ys))
-  boards_alike c board other xs ys same = heard_alike c board xs ∙ (same ∙ sym (heard_alike c other ys))
+      → filter p (step_lines 0 (completed_in c board xs)) ≡ filter p (step_lines 0 (completed_in c other ys))
+  boards_alike c board other xs ys same = completed_alike c board xs ∙ (same ∙ sym (completed_alike c other ys))
 
 -- ---- of the lines about a unit
 

@@ -15,29 +15,30 @@ use Rattle.pm_drive.specs.Tasks.{task_notes}
 
 -- the answer to a core event as it is told: where the book replies to a message whose API word is a module's, what the
 -- module says stands in place of the reply. Any other answer is the book's
-abbrev pub heard : List Ranged → Event → Answer → Answer
-heard modules (Ipi sender message) (Reply master response) = Reply master (unwrap_or (said_by modules message) response)
-heard modules event answer = answer
+abbrev pub completed : List Ranged → Event → Answer → Answer
+completed modules (Ipi sender message) (Reply master response) =
+    Reply master (unwrap_or (said_by modules message) response)
+completed modules event answer = answer
 
 -- a core step, with its answer as it is told
-abbrev pub heard_core : List Ranged → Given → Given
-heard_core modules g = record g { part = record g.part { answer = heard modules g.core.event g.part.answer } }
+abbrev pub completed_core : List Ranged → Given → Given
+completed_core modules g = record g { part = record g.part { answer = completed modules g.core.event g.part.answer } }
 
-abbrev pub heard_cores : List Ranged → List Given → List Given
-heard_cores modules given = map (heard_core modules) given
+abbrev pub completed_cores : List Ranged → List Given → List Given
+completed_cores modules given = map (completed_core modules) given
 
 -- a driven line that finds a board so: its answers as they are told, and its own notes, and then those of tasks
-abbrev pub heard_line : Standing → Driven → Driven
-heard_line board x =
+abbrev pub completed_line : Standing → Driven → Driven
+completed_line board x =
     record x {
       line = record x.line { notes = x.line.notes ++ task_notes x.line.event board.tasks };
-      cores = heard_cores board.modules x.cores;
+      cores = completed_cores board.modules x.cores;
     }
 
 -- driven lines, the first of which finds a board so, and each later one as the line before it leaves it
-abbrev pub heard_by : Standing → List Driven → List Driven
-heard_by board [] = []
-heard_by board (x ∷ xs) = heard_line board x ∷ heard_by (board_after x.line.event board) xs
+abbrev pub completed_by : Standing → List Driven → List Driven
+completed_by board [] = []
+completed_by board (x ∷ xs) = completed_line board x ∷ completed_by (board_after x.line.event board) xs
 
 -- the board after these driven lines
 abbrev pub last_board : Standing → List Driven → Standing
@@ -46,5 +47,5 @@ last_board board (x ∷ xs) = last_board (board_after x.line.event board) xs
 
 -- driven lines of a run that begins with a board, from its load on: with the clocks of the book, and with what the board brings.
 -- The API words of the clocks are none of modules, and the notes of clocks stand before those of tasks
-abbrev pub heard_in : Setup → Standing → List Driven → List Driven
-heard_in c board xs = heard_by board (clocked c xs)
+abbrev pub completed_in : Setup → Standing → List Driven → List Driven
+completed_in c board xs = completed_by board (clocked c xs)
