@@ -28,7 +28,7 @@ use Rattle.pm_isolate.specs.Marks.{Marks, has_place, is_proc, proc_places, renew
 use Rattle.pm_isolate.specs.Moves.{Logged, cleared, is_logged, line_moves}
 use Rattle.pm_laws.specs.Quiet.{quiet_event}
 use Rattle.pm_isolate.specs.Sides.{AreMarked, Sides}
-use Rattle.pm_isolate.specs.Within.{begun, line_after, looked, noted, noted_in, stepped}
+use Rattle.pm_isolate.specs.Within.{begun, compared, has_differed, line_after, looked, stepped}
 use Rattle.pm_isolate.proofs.HistoryLemmas.{clash, not_false, one}
 use Rattle.pm_isolate.proofs.MovesLemmas.{unmoved, unturned}
 use Rattle.pm_isolate.proofs.PlacesLemmas.{neither_place, procs_there, renewed_all}
@@ -48,36 +48,36 @@ shown_kept (Node node) old new fixed same procs =
     ∙ point_kept (kind_of old.fixed.topology node) old.fixed old.now.core new.now.core (sym (ap (λ (f : Fixed). value_at (kind_of f.topology node) f new.now.core) fixed) ∙ same) procs
 shown_kept (Line line) old new fixed same procs = same
 
--- ---- what is noted once more
+-- ---- compared once more
 
-noted_twice : (a b : State) (u : Unit) (before : Bool) → noted_in a b u (noted_in a b u before) ≡ noted_in a b u before
-noted_twice a b u true = refl
-noted_twice a b u false = by (not (shown u a == shown u b))
+compared_twice : (a b : State) (u : Unit) (before : Bool) → has_differed a b u (has_differed a b u before) ≡ has_differed a b u before
+compared_twice a b u true = refl
+compared_twice a b u false = by (not (shown u a == shown u b))
   where
     by : (d : Bool) → (d || d) ≡ d
     by true = refl
     by false = refl
 
-not_noted : (a b : State) (u : Unit) (before : Bool) → (before ≡ false → shown u a ≡ shown u b) → noted_in a b u before ≡ before
-not_noted a b u true same = refl
-not_noted a b u false same = ap not (equal (shown u a) (shown u b) (same refl))
+still_alike : (a b : State) (u : Unit) (before : Bool) → (before ≡ false → shown u a ≡ shown u b) → has_differed a b u before ≡ before
+still_alike a b u true same = refl
+still_alike a b u false same = ap not (equal (shown u a) (shown u b) (same refl))
 
-noted_shows : (a b : State) (u : Unit) (before : Bool) → noted_in a b u before ≡ false → shown u a ≡ shown u b
-noted_shows a b u true none = clash none
-noted_shows a b u false none = one (shown u a) (shown u b) (not_false (shown u a == shown u b) none)
+compared_shows : (a b : State) (u : Unit) (before : Bool) → has_differed a b u before ≡ false → shown u a ≡ shown u b
+compared_shows a b u true none = clash none
+compared_shows a b u false none = one (shown u a) (shown u b) (not_false (shown u a == shown u b) none)
 
--- what is noted of two books is marked
-marked_by : (a b : State) (marks : Marks) → b.fixed ≡ a.fixed → units_in (noted a b marks) ≡ units a → AreMarked a b (noted a b marks)
+-- the marks that two books are compared by are right of them
+marked_by : (a b : State) (marks : Marks) → b.fixed ≡ a.fixed → units_in (compared a b marks) ≡ units a → AreMarked a b (compared a b marks)
 marked_by a b marks fixed all = record { fixed = fixed; units = all; shows = shows }
   where
-    by : (k : ℕ) (mark : Unit × Bool) (o : Option (Unit × Bool)) → option_map (remade (noted_in a b)) o ≡ Some mark → mark.1 ≡ false → shown mark.0 a ≡ shown mark.0 b
+    by : (k : ℕ) (mark : Unit × Bool) (o : Option (Unit × Bool)) → option_map (remade (has_differed a b)) o ≡ Some mark → mark.1 ≡ false → shown mark.0 a ≡ shown mark.0 b
     by k mark None at none = cc
     by k mark (Some e) at none =
-        let same : (e.0, noted_in a b e.0 e.1) ≡ mark = cc in
-        subst (λ (x : Unit × Bool). x.1 ≡ false → shown x.0 a ≡ shown x.0 b) same (noted_shows a b e.0 e.1) none
+        let same : (e.0, has_differed a b e.0 e.1) ≡ mark = cc in
+        subst (λ (x : Unit × Bool). x.1 ≡ false → shown x.0 a ≡ shown x.0 b) same (compared_shows a b e.0 e.1) none
 
-    shows : (k : ℕ) (mark : Unit × Bool) → slice_get (noted a b marks) k ≡ Some mark → mark.1 ≡ false → shown mark.0 a ≡ shown mark.0 b
-    shows k mark at none = by k mark (slice_get marks k) (sym (slice_get-map (remade (noted_in a b)) marks k) ∙ at) none
+    shows : (k : ℕ) (mark : Unit × Bool) → slice_get (compared a b marks) k ≡ Some mark → mark.1 ≡ false → shown mark.0 a ≡ shown mark.0 b
+    shows k mark at none = by k mark (slice_get marks k) (sym (slice_get-map (remade (has_differed a b)) marks k) ∙ at) none
 
 -- at load no unit differs
 units_all : (units : List Unit) → units_in (all_at false units) ≡ units
@@ -122,20 +122,20 @@ module _ (laws : TablePlaceLaws Bool) (a b a' b' : State) (marks : Marks) (m : L
 
   looked_all : procs ≡ proc_places a.fixed.topology 0 (units a) → AreMarked a b marks → a'.fixed ≡ a.fixed → b'.fixed ≡ b.fixed → KeepBoth
       → ((k : ℕ) (e : Unit × Bool) → slice_get marks k ≡ Some e → is_logged m k ≡ false → (value e.0 a' ≡ value e.0 a) × (value e.0 b' ≡ value e.0 b))
-      → looked a' b' m procs marks ≡ noted a' b' marks
+      → looked a' b' m procs marks ≡ compared a' b' marks
   looked_all at_procs marked fixed fixed' keep kept = by m.all refl
     where
-      stays : m.all ≡ false → (k : ℕ) (e : Unit × Bool) → slice_get marks k ≡ Some e → has_place (m.places.items ++ turned) k ≡ false → noted_in a' b' e.0 e.1 ≡ e.1
+      stays : m.all ≡ false → (k : ℕ) (e : Unit × Bool) → slice_get marks k ≡ Some e → has_place (m.places.items ++ turned) k ≡ false → has_differed a' b' e.0 e.1 ≡ e.1
       stays some k e at none =
           let parts = neither_place m.places.items turned k none in
           let values = kept k e at (none_of m.all (has_place m.places.items k) some parts.0) in
-          not_noted a' b' e.0 e.1 (shows_still at_procs marked fixed fixed' keep k e at values.0 values.1 parts.1)
+          still_alike a' b' e.0 e.1 (shows_still at_procs marked fixed fixed' keep k e at values.0 values.1 parts.1)
 
-      by : (all : Bool) → m.all ≡ all → cond all (noted a' b' marks) (renewed_along (noted_in a' b') turned (renewed_along (noted_in a' b') m.places.items marks)) ≡ noted a' b' marks
+      by : (all : Bool) → m.all ≡ all → cond all (compared a' b' marks) (renewed_along (has_differed a' b') turned (renewed_along (has_differed a' b') m.places.items marks)) ≡ compared a' b' marks
       by true is = refl
       by false is =
-          sym (fold-append (renewed_at (noted_in a' b')) marks m.places.items turned)
-          ∙ renewed_all laws (noted_in a' b') (noted_twice a' b') (m.places.items ++ turned) marks (stays is)
+          sym (fold-append (renewed_at (has_differed a' b')) marks m.places.items turned)
+          ∙ renewed_all laws (has_differed a' b') (compared_twice a' b') (m.places.items ++ turned) marks (stays is)
 
 -- ---- a script line in each book
 
@@ -155,7 +155,7 @@ module _ (event other : Event) (a b : Stand) (marks : Marks) (marked : AreMarked
   fixed_quiet = fixed_along (split (setup_of b.book) other b).events b.book
 
   pub line_looked : UnitLaws → TablePlaceLaws Bool → (m : Logged) (procs : List ℕ) → procs ≡ proc_places a.book.fixed.topology 0 (units a.book)
-      → looked (line_after event a).book (line_after other b).book (line_moves marks other b (line_moves marks event a (cleared m))) procs marks ≡ noted (line_after event a).book (line_after other b).book marks
+      → looked (line_after event a).book (line_after other b).book (line_moves marks other b (line_moves marks event a (cleared m))) procs marks ≡ compared (line_after event a).book (line_after other b).book marks
   line_looked laws places m procs at_procs =
       looked_all places a.book b.book (line_after event a).book (line_after other b).book marks (line_moves marks other b (line_moves marks event a (cleared m))) procs at_procs marked fixed_loud fixed_quiet keep kept
     where
@@ -178,10 +178,10 @@ module _ (event other : Event) (a b : Stand) (marks : Marks) (marked : AreMarked
           let first = unmoved marks (split (setup_of a.book) event a).events a.book (cleared m) k e rising marked.units at second.0 in
           (first.1, second.1)
 
-  pub line_marked : AreMarked (line_after event a).book (line_after other b).book (noted (line_after event a).book (line_after other b).book marks)
+  pub line_marked : AreMarked (line_after event a).book (line_after other b).book (compared (line_after event a).book (line_after other b).book marks)
   line_marked =
       marked_by (line_after event a).book (line_after other b).book marks (fixed_quiet ∙ marked.fixed ∙ sym fixed_loud)
-      (units_same (noted_in (line_after event a).book (line_after other b).book) marks ∙ marked.units ∙ ap (λ (f : Fixed). units_of f.topology) (sym fixed_loud))
+      (units_same (has_differed (line_after event a).book (line_after other b).book) marks ∙ marked.units ∙ ap (λ (f : Fixed). units_of f.topology) (sym fixed_loud))
 
   -- the places of the processors are those that they were
   pub line_procs : (procs : List ℕ) → procs ≡ proc_places a.book.fixed.topology 0 (units a.book) → procs ≡ proc_places (line_after event a).book.fixed.topology 0 (units (line_after event a).book)
@@ -195,7 +195,7 @@ sides a b marks = record { loud = a; quiet = b; differs = marks }
 module _ (laws : UnitLaws) (places : TablePlaceLaws Bool) (master : NodeId) (event other : Event) (a b a' b' : Stand) (marks marks' : Marks) (m m0 m1 m2 : Logged) (procs : List ℕ)
     (marked : AreMarked a.book b.book marks) (at_procs : procs ≡ proc_places a.book.fixed.topology 0 (units a.book)) (is_quiet : other ≡ quiet_event master event) (clears : m0 ≡ cleared m)
     (loud : a' ≡ line_after event a) (moves : m1 ≡ line_moves marks event a m0) (quiet : b' ≡ line_after other b) (more : m2 ≡ line_moves marks other b m1) (notes : marks' ≡ looked a'.book b'.book m2 procs marks) where
-  marks_are : marks' ≡ noted (line_after event a).book (line_after other b).book marks
+  marks_are : marks' ≡ compared (line_after event a).book (line_after other b).book marks
   marks_are =
       let logged : m2 ≡ line_moves marks other b (line_moves marks event a (cleared m)) =
       more ∙ ap (λ (x : Logged). line_moves marks other b x) (moves ∙ ap (λ (x : Logged). line_moves marks event a x) clears)
@@ -211,7 +211,7 @@ module _ (laws : UnitLaws) (places : TablePlaceLaws Bool) (master : NodeId) (eve
       ap (λ (x : Stand). sides x b' marks') loud
       ∙ ap (λ (x : Stand). sides (line_after event a) x marks') quiet
       ∙ ap (λ (x : Marks). sides (line_after event a) (line_after other b) x) marks_are
-      ∙ ap (λ (e : Event). sides (line_after event a) (line_after e b) (noted (line_after event a).book (line_after e b).book marks)) is_quiet
+      ∙ ap (λ (e : Event). sides (line_after event a) (line_after e b) (compared (line_after event a).book (line_after e b).book marks)) is_quiet
 
   pub step_marked : AreMarked a'.book b'.book marks'
   step_marked =

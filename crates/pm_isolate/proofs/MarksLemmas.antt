@@ -1,4 +1,4 @@
--- What is noted of each unit line by line is whether its transitions in the two runs differ.
+-- The mark of each unit, set line by line, says whether its transitions in the two runs differ.
 use Rattle.std.proofs.Common.{◌≡◌, ℕ, ◌+◌, ◌<◌, ◌==◌, ◌||◌, ◌++◌, Bool, true, false, not, cond, if◌then◌else◌, List, [], ◌∷◌, Option, Some, length, map, take, drop, get_or, suc, refl, sym, ◌∙◌, ap}
 use Rattle.std.specs.Prelude.{filter, slice_get}
 use Rattle.std.specs.List.{concat, flat_map}
@@ -19,18 +19,18 @@ use Rattle.pm_isolate.specs.Sides.{Sides}
 use Rattle.pm_isolate.specs.Differences.{difference_line, differences, steps_line}
 use Rattle.pm_isolate.specs.Marks.{Marks, renewed, renewed_at}
 use Rattle.pm_isolate.specs.Transitions.{differs, history}
-use Rattle.pm_isolate.specs.Within.{after, begun, end_text, line_after, mark_line, noted_in, stepped}
+use Rattle.pm_isolate.specs.Within.{after, begun, end_text, has_differed, line_after, mark_line, stepped}
 use Rattle.pm_isolate.proofs.HistoryLemmas.{parts, parts_tell}
 use Rattle.pm_isolate.proofs.StandLemmas.{fixed_on}
 
--- ---- one note
+-- ---- one mark
 
-pub note_step : TablePlaceLaws Bool → (f : Unit → Bool → Bool) (old now new : Marks) (place : ℕ)
+pub mark_step : TablePlaceLaws Bool → (f : Unit → Bool → Bool) (old now new : Marks) (place : ℕ)
     → now ≡ mapped f (take place old) ++ drop place old
     → place < length old
     → new ≡ renewed_at f now place
     → new ≡ mapped f (take (place + 1) old) ++ drop (place + 1) old
-note_step laws f old now new place so_far inside sets =
+mark_step laws f old now new place so_far inside sets =
     let mark : Unit × Bool = get_or old place (Node (record { 0 = 0 }), false) in
     let found : slice_get old place ≡ Some mark = slice_get-get_or old place (Node (record { 0 = 0 }), false) inside in
     let here : slice_get now place ≡ Some mark = ap (λ (marks : Marks). slice_get marks place) so_far ∙ laws.next f old place ∙ found in
@@ -39,7 +39,7 @@ note_step laws f old now new place so_far inside sets =
     ∙ ap (λ (marks : Marks). with_value_at place (f mark.0 mark.1) marks) so_far
     ∙ laws.made f old place mark found
 
--- ---- what is noted over some events
+-- ---- the marks over some events
 
 -- a unit with what a test gives of it
 abbrev pub marked : (Unit → Bool) → Unit → Unit × Bool
@@ -53,12 +53,12 @@ mapped_marked f g (u ∷ us) = ap (λ (rest : Marks). (u, f u (g u)) ∷ rest) (
 abbrev pub apart : NodeId → List Event → Stand → Stand → Unit → Bool → Bool
 apart m [] a b u before = before
 apart m (e ∷ es) a b u before =
-    apart m es (line_after e a) (line_after (quiet_event m e) b) u (noted_in (line_after e a).book (line_after (quiet_event m e) b).book u before)
+    apart m es (line_after e a) (line_after (quiet_event m e) b) u (has_differed (line_after e a).book (line_after (quiet_event m e) b).book u before)
 
 marks_after : (m : NodeId) (es : List Event) (w : Sides) (g : Unit → Bool) (units : List Unit) → w.differs ≡ map (marked g) units → (after m es w).differs ≡ map (marked (λ u. apart m es w.loud w.quiet u (g u))) units
 marks_after m [] w g units is = is
 marks_after m (e ∷ es) w g units is =
-    let f : Unit → Bool → Bool = noted_in (line_after e w.loud).book (line_after (quiet_event m e) w.quiet).book in
+    let f : Unit → Bool → Bool = has_differed (line_after e w.loud).book (line_after (quiet_event m e) w.quiet).book in
     marks_after m es (stepped m e w) (λ u. f u (g u)) units (ap (λ (marks : Marks). mapped f marks) is ∙ mapped_marked f g units)
 
 fixed_after : (m : NodeId) (es : List Event) (w : Sides) → (after m es w).loud.book.fixed ≡ w.loud.book.fixed

@@ -1,9 +1,8 @@
 -- A core event that may turn no mode leaves all processors as they are.
-use Rattle.std.proofs.Common.{◌≡◌, ℕ, ◌==◌, ◌||◌, ◌⊎◌, Bool, true, false, if◌then◌else◌, List, [], ◌∷◌, Option, Some, None, refl, inl, inr, sym, ap, ◌∙◌, subst}
+use Rattle.std.proofs.Common.{◌≡◌, ℕ, ◌||◌, ◌⊎◌, Bool, true, false, if◌then◌else◌, List, [], ◌∷◌, Option, Some, None, refl, inl, inr, sym, ap, ◌∙◌, subst}
 use Rattle.std.specs.Prelude.{is_some, option_and_then}
 use Rattle.pm_base.specs.declared.events.Event.{Event}
 use Rattle.pm_base.specs.declared.events.Event.TheVariants.{Ipi}
-use Rattle.pm_base.specs.declared.events.Message.{Message}
 use Rattle.pm_ipi.specs.declared.calls.Call.{Call}
 use Rattle.pm_ipi.specs.Calls.{call_of}
 use Rattle.pm_rows.specs.declared.row.Change.{Change}
@@ -25,8 +24,8 @@ use Rattle.pm_step.proofs.MessageLaw.{of_message}
 use Rattle.pm_step.proofs.ModesLaw.{follow_keeps}
 use Rattle.pm_step.proofs.Refused.{none_staged, read_at}
 use Rattle.pm_core.specs.Step.{effect}
-use Rattle.pm_isolate.specs.Moves.{keeps_modes, may_turn}
-use Rattle.pm_isolate.proofs.HistoryLemmas.{not_false, one}
+use Rattle.pm_isolate.specs.Moves.{may_turn}
+use Rattle.pm_isolate.proofs.HistoryLemmas.{not_false}
 
 -- the processors after a step of a book are those before it
 abbrev pub KeepsProcs : State → State → Type 0
@@ -67,28 +66,10 @@ call_keeps call book place keeps = elim (either_of (only_reads call) (is_some (r
       subst Q (sym (called_shaped m call book)) (shape_leaves m (shape_of call) book row))
 ]
 
--- ---- the number of a message
-
-number_keeps : (message : Message) (n : ℕ) → keeps_procs (call_of (record message { api = n })) ≡ true → (message.api == n) ≡ true → keeps_procs (call_of message) ≡ true
-number_keeps message n keeps is = subst (λ (api : ℕ). keeps_procs (call_of (record message { api = api })) ≡ true) (sym (one message.api n is)) keeps
-
-either_keeps : (message : Message) (n : ℕ) (before : Bool) → keeps_procs (call_of (record message { api = n })) ≡ true → (before ≡ true → keeps_procs (call_of message) ≡ true)
-    → (before || (message.api == n)) ≡ true → keeps_procs (call_of message) ≡ true
-either_keeps message n before keeps earlier is = by before refl is
-  where
-    by : (b : Bool) → before ≡ b → (b || (message.api == n)) ≡ true → keeps_procs (call_of message) ≡ true
-    by true first is = earlier first
-    by false first is = number_keeps message n keeps is
-
-message_keeps : (message : Message) → keeps_modes message.api ≡ true → keeps_procs (call_of message) ≡ true
-message_keeps message =
-    either_keeps message 18 _ refl (either_keeps message 16 _ refl (either_keeps message 15 _ refl (either_keeps message 14 _ refl (either_keeps message 13 _ refl
-    (either_keeps message 11 _ refl (either_keeps message 4 _ refl (either_keeps message 3 _ refl (number_keeps message 1 refl))))))))
-
 -- ---- a core event
 
 pub event_keeps : (event : Event) (book : State) → may_turn event ≡ false → KeepsProcs book (effect event book)
 event_keeps (Ipi master message) book stays =
     let call : Call = call_of message in
-    call_keeps call book (master_place master book) (message_keeps message (not_false (keeps_modes message.api) stays))
+    call_keeps call book (master_place master book) (not_false (keeps_procs call) stays)
 event_keeps event book stays = ap (λ (stages : List (List Prim)). (after_stages stages book).now.core.procs) (none_staged event book stays)

@@ -1,14 +1,15 @@
 -- The places of the units that moved in a script line, in either book, and whether a processor may have changed its mode.
-use Rattle.std.specs.Prelude.{ℕ, ◌==◌, ◌||◌, nat_lt, not, Bool, true, false, if◌then◌else◌, List, [], ◌∷◌, ◌++◌, fold, length, Option, None, Some}
+use Rattle.std.specs.Prelude.{ℕ, ◌||◌, nat_lt, not, Bool, true, false, if◌then◌else◌, List, [], ◌∷◌, ◌++◌, fold, length, Option, None, Some}
 use Rattle.pm_base.specs.BoundedList.{Bounded}
 use Rattle.pm_base.specs.declared.events.Event.{Event}
 use Rattle.pm_base.specs.declared.events.Event.TheVariants.{Ipi}
 use Rattle.pm_base.specs.declared.names.Unit.{Unit}
 use Rattle.pm_topology.specs.UnitMap.{place_of}
+use Rattle.pm_ipi.specs.Calls.{call_of}
 use Rattle.pm_state.specs.State.{State}
 use Rattle.pm_state.specs.Units.{moved}
 use Rattle.pm_state.specs.Values.{value}
-use Rattle.pm_step.specs.Step.{is_action}
+use Rattle.pm_step.specs.Step.{is_action, keeps_procs}
 use Rattle.pm_core.specs.Step.{effect}
 use Rattle.pm_run.specs.Run.{Stand, setup_of, split}
 use Rattle.pm_isolate.specs.Marks.{Marks, has_place}
@@ -23,15 +24,10 @@ pub record Logged : Type 0 where
 abbrev pub cleared : Logged → Logged
 cleared m = record { places = record m.places { items = [] }; all = false; modes = false }
 
--- the call of this number only reads the book (GET_API_VERSION, GET_NODE_STATUS, GET_OP_CHARACTERISTIC, RESET_GET_STATUS), or
--- changes a row of its caller (SET_WAKEUP_SOURCE, REQUEST_NODE, RELEASE_NODE, SET_REQUIREMENT, SET_MAX_LATENCY)
-abbrev pub keeps_modes : ℕ → Bool
-keeps_modes api =
-    (api == 1) || (api == 3) || (api == 4) || (api == 11) || (api == 13) || (api == 14) || (api == 15) || (api == 16) || (api == 18)
-
--- a core event may change the mode of a processor: the message of another call, and any other event that may have stages
+-- a core event may change the mode of a processor: the message of a call that doesn't leave all processors in their modes, and
+-- any other event that may have stages
 abbrev pub may_turn : Event → Bool
-may_turn (Ipi master message) = not (keeps_modes message.api)
+may_turn (Ipi master message) = not (keeps_procs (call_of message))
 may_turn event = is_action event
 
 -- with whether this event may

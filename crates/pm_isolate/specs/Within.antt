@@ -36,22 +36,23 @@ use Rattle.pm_isolate.specs.Differences.{difference_line, steps_line}
 use Rattle.pm_isolate.specs.Marks.{Marks, renewed_along}
 use Rattle.pm_isolate.specs.Moves.{Logged}
 
--- a unit differs where it did before, or where the two books show different values of it
-abbrev pub noted_in : State → State → Unit → Bool → Bool
-noted_in a b unit before = before || not (shown unit a == shown unit b)
+-- a unit differs if it did before, or if the two books show different values of it
+abbrev pub has_differed : State → State → Unit → Bool → Bool
+has_differed a b unit before = before || not (shown unit a == shown unit b)
 
-abbrev pub noted : State → State → Marks → Marks
-noted a b marks = mapped (noted_in a b) marks
+-- the marks of all units, after the two books are compared
+abbrev pub compared : State → State → Marks → Marks
+compared a b marks = mapped (has_differed a b) marks
 
--- so are the units at these places alone
-abbrev pub noted_along : State → State → List ℕ → Marks → Marks
-noted_along a b places marks = renewed_along (noted_in a b) places marks
+-- after the units at these places alone are compared
+abbrev pub compared_along : State → State → List ℕ → Marks → Marks
+compared_along a b places marks = renewed_along (has_differed a b) places marks
 
--- and those at the places that were logged, and at these where a mode may have changed, or all units where all places were
--- logged
+-- after the units at the places that were logged are compared, and those at these if a mode may have changed, or all units if
+-- all places were logged
 abbrev pub looked : State → State → Logged → List ℕ → Marks → Marks
 looked a b m procs marks =
-    if m.all then noted a b marks else noted_along a b (if m.modes then procs else []) (noted_along a b m.places.items marks)
+    if m.all then compared a b marks else compared_along a b (if m.modes then procs else []) (compared_along a b m.places.items marks)
 
 -- both runs at load, which show the same
 abbrev pub begun : Setup → Sides
@@ -78,7 +79,7 @@ abbrev pub stepped : NodeId → Event → Sides → Sides
 stepped m event w = record {
   loud = line_after event w.loud;
   quiet = line_after (quiet_event m event) w.quiet;
-  differs = noted (line_after event w.loud).book (line_after (quiet_event m event) w.quiet).book w.differs;
+  differs = compared (line_after event w.loud).book (line_after (quiet_event m event) w.quiet).book w.differs;
 }
 
 -- one line after another

@@ -2,7 +2,7 @@
 
 ghost use Rattle.std.specs.Prelude.{◌≡◌, ◌<◌, IfOk, Some, length, slice_get};
 ghost use Rattle.pm_isolate.specs.Marks.{is_proc, proc_places, renewed_at};
-ghost use Rattle.pm_isolate.specs.Within.{looked, noted, noted_along, noted_in};
+ghost use Rattle.pm_isolate.specs.Within.{compared, compared_along, has_differed, looked};
 
 use crate::moves::Moves;
 use pm_base::{NoMemory, Unit};
@@ -27,7 +27,7 @@ pub fn log(loud: &Book, quiet: &Book, moves: &Moves, procs: &[usize], marks: &mu
 
 /// Marks each unit that shows different values in two books.
 fn log_all(loud: &Book, quiet: &Book, marks: &mut UnitMap<bool>)
-    ensures { marks.new ≡ noted loud.now quiet.now marks.old }
+    ensures { marks.new ≡ compared loud.now quiet.now marks.old }
 {
     unit_map_places::<bool>();
     for place in 0..marks.len() {
@@ -37,7 +37,7 @@ fn log_all(loud: &Book, quiet: &Book, marks: &mut UnitMap<bool>)
 
 /// Marks each unit that shows different values in two books, of those at these places.
 fn log_along(loud: &Book, quiet: &Book, places: &[usize], marks: &mut UnitMap<bool>)
-    ensures { marks.new ≡ noted_along loud.now quiet.now places.now marks.old }
+    ensures { marks.new ≡ compared_along loud.now quiet.now places.now marks.old }
 {
     for place in places {
         log_at(loud, quiet, *place, marks);
@@ -46,16 +46,16 @@ fn log_along(loud: &Book, quiet: &Book, places: &[usize], marks: &mut UnitMap<bo
 
 /// Marks the unit at a place, if it shows different values in two books.
 fn log_at(loud: &Book, quiet: &Book, place: usize, marks: &mut UnitMap<bool>)
-    ensures { marks.new ≡ renewed_at (noted_in loud.now quiet.now) marks.old place }
+    ensures { marks.new ≡ renewed_at (has_differed loud.now quiet.now) marks.old place }
 {
     if let Some((unit, before)) = marks.entry(place) {
-        marks.set_at(place, is_noted(loud, quiet, unit, before));
+        marks.set_at(place, has_differed(loud, quiet, unit, before));
     }
 }
 
 /// Whether a unit differs: it did before, or the two books show different values of it.
-fn is_noted(loud: &Book, quiet: &Book, unit: Unit, before: bool) -> bool
-    ensures { result ≡ noted_in loud.now quiet.now unit before }
+fn has_differed(loud: &Book, quiet: &Book, unit: Unit, before: bool) -> bool
+    ensures { result ≡ has_differed loud.now quiet.now unit before }
 {
     before || loud.shown(unit) != quiet.shown(unit)
 }

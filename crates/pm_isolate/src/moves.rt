@@ -1,9 +1,11 @@
 //! The places of the units that moved in a script line, and whether a processor may have changed its mode.
 
 ghost use Rattle.std.specs.Prelude.{◌≡◌, [], false, IfOk};
-ghost use Rattle.pm_isolate.specs.Moves.{cleared, keeps_modes, may_turn, with_event, with_place, with_unit, with_units};
+ghost use Rattle.pm_isolate.specs.Moves.{cleared, may_turn, with_event, with_place, with_unit, with_units};
 
 use pm_base::{BoundedList, Event, NoMemory, Unit};
+use pm_ipi::decode_call;
+use pm_step::keeps_procs;
 use pm_topology::UnitMap;
 use std::alloc::Global;
 use std::marker::Model;
@@ -121,17 +123,8 @@ fn may_turn(event: &Event) -> bool
     ensures { result ≡ may_turn event.now }
 {
     match event {
-        Event::Ipi { message, .. } => !keeps_modes(message.api),
+        Event::Ipi { message, .. } => !keeps_procs(&decode_call(message)),
         Event::Boot { .. } | Event::Wfi { .. } | Event::Irq { .. } | Event::Gic { .. } => true,
         _ => false,
     }
-}
-
-/// Whether the call of a number only reads the book (GET_API_VERSION, GET_NODE_STATUS, GET_OP_CHARACTERISTIC,
-/// RESET_GET_STATUS), or changes a row of its caller (SET_WAKEUP_SOURCE, REQUEST_NODE, RELEASE_NODE, SET_REQUIREMENT,
-/// SET_MAX_LATENCY): it leaves all processors in their modes.
-fn keeps_modes(api: u32) -> bool
-    ensures { result ≡ keeps_modes api }
-{
-    matches!(api, 1 | 3 | 4 | 11 | 13 | 14 | 15 | 16 | 18)
 }

@@ -85,7 +85,7 @@ impl Worlds {
     }
 
     /// One line in both, but for a message of the master, in place of which nothing happens in the quiet
-    /// one; and each unit that then shows different values is noted.
+    /// one; and each unit that then shows different values is marked.
     pub fn step(&mut self, m: NodeId, event: &Event)
         ensures { self.new ≡ stepped m event.now self.old }
     {
