@@ -91,7 +91,7 @@ impl Worlds {
     {
         units_stand_in_order();
         unit_map_places::<bool>();
-        let heard = quiet_event(m, event, &self.pass);
+        let other = quiet_event(m, event, &self.pass);
         self.moves.clear();
         step_line(
             &mut self.loud,
@@ -102,7 +102,7 @@ impl Worlds {
         );
         step_line(
             &mut self.quiet,
-            heard,
+            other,
             &self.differs,
             &mut self.moves,
             &mut self.made,

@@ -16,8 +16,8 @@ returns c =
     ∙ ap (λ x. looked a.book x m c.as_slice.result.now i.differs) c.book-2.ensures
     ∙ ap (λ procs. looked a.book b.book m procs i.differs) c.as_slice.ensures.value
     in
-    step_is c.units_stand_in_order.ensures c.unit_map_places.ensures c.args.m c.args.event.now c.quiet_event-heard.result.now i.loud i.quiet a b i.differs c.log.new.marks i.moves c.clear.new.self c.step_line.new.moves m i.procs.items
-    c.self.invariant.0 c.self.invariant.1 c.quiet_event-heard.ensures c.clear.ensures c.step_line.ensures.stand c.step_line.ensures.moves c.step_line-2.ensures.stand c.step_line-2.ensures.moves notes
+    step_is c.units_stand_in_order.ensures c.unit_map_places.ensures c.args.m c.args.event.now c.quiet_event-other.result.now i.loud i.quiet a b i.differs c.log.new.marks i.moves c.clear.new.self c.step_line.new.moves m i.procs.items
+    c.self.invariant.0 c.self.invariant.1 c.quiet_event-other.ensures c.clear.ensures c.step_line.ensures.stand c.step_line.ensures.moves c.step_line-2.ensures.stand c.step_line-2.ensures.moves notes
     ∙ ap (λ (w : Sides). stepped c.args.m c.args.event.now w) c.self.view_is
 
 pub invariant_of-self : goal.invariant_of-self
@@ -32,9 +32,9 @@ invariant_of-self c =
     ∙ ap (λ x. looked a.book x m c.as_slice.result.now i.differs) c.book-2.ensures
     ∙ ap (λ procs. looked a.book b.book m procs i.differs) c.as_slice.ensures.value
     in (
-      step_marked c.units_stand_in_order.ensures c.unit_map_places.ensures c.args.m c.args.event.now c.quiet_event-heard.result.now i.loud i.quiet a b i.differs c.log.new.marks i.moves c.clear.new.self c.step_line.new.moves m i.procs.items
-          c.self.invariant.0 c.self.invariant.1 c.quiet_event-heard.ensures c.clear.ensures c.step_line.ensures.stand c.step_line.ensures.moves c.step_line-2.ensures.stand c.step_line-2.ensures.moves notes,
-      step_procs c.units_stand_in_order.ensures c.unit_map_places.ensures c.args.m c.args.event.now c.quiet_event-heard.result.now i.loud i.quiet a b i.differs c.log.new.marks i.moves c.clear.new.self c.step_line.new.moves m i.procs.items
-          c.self.invariant.0 c.self.invariant.1 c.quiet_event-heard.ensures c.clear.ensures c.step_line.ensures.stand c.step_line.ensures.moves c.step_line-2.ensures.stand c.step_line-2.ensures.moves notes,
+      step_marked c.units_stand_in_order.ensures c.unit_map_places.ensures c.args.m c.args.event.now c.quiet_event-other.result.now i.loud i.quiet a b i.differs c.log.new.marks i.moves c.clear.new.self c.step_line.new.moves m i.procs.items
+          c.self.invariant.0 c.self.invariant.1 c.quiet_event-other.ensures c.clear.ensures c.step_line.ensures.stand c.step_line.ensures.moves c.step_line-2.ensures.stand c.step_line-2.ensures.moves notes,
+      step_procs c.units_stand_in_order.ensures c.unit_map_places.ensures c.args.m c.args.event.now c.quiet_event-other.result.now i.loud i.quiet a b i.differs c.log.new.marks i.moves c.clear.new.self c.step_line.new.moves m i.procs.items
+          c.self.invariant.0 c.self.invariant.1 c.quiet_event-other.ensures c.clear.ensures c.step_line.ensures.stand c.step_line.ensures.moves c.step_line-2.ensures.stand c.step_line-2.ensures.moves notes,
       c.self.invariant.2,
     )
