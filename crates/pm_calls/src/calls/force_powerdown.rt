@@ -58,7 +58,7 @@ fn permits_force(tables: &Tables, master: usize, node: NodeId) -> bool
     tables.grants().permits_force(master, tables.kind(node))
 }
 
-/// The stages of a force. The modes are noted between them.
+/// The stages of a force. The modes are logged between them.
 fn force(tables: &mut Tables, node: NodeId, along: &mut Along)
     requires { along.old ≡ trail_from tables.old }
     ensures book { tables.new ≡ after_stages (force_stages tables.old.fixed node) tables.old }

@@ -68,7 +68,7 @@ fn permits_shutdown(tables: &Tables, master: usize, subtype: u32) -> bool
     tables.grants().permits_shut(master, subtype)
 }
 
-/// A master's processors go off, and then its first one starts, where it restarts. The modes are noted
+/// A master's processors go off, and then its first one starts, where it restarts. The modes are logged
 /// between the stages.
 fn shut_own(tables: &mut Tables, m: usize, restarts: bool, along: &mut Along)
     requires { along.old ≡ trail_from tables.old }
