@@ -1,5 +1,5 @@
 -- The clocks over a book: what they see of it, and what a core step does to them.
-use Rattle.std.specs.Prelude.{◌≡◌, ◌==◌, Bool, true, false, not, ◌&&◌, List, map, Option, Some, None}
+use Rattle.std.specs.Prelude.{◌≡◌, ◌==◌, Bool, not, ◌&&◌, List, is_some, map, Option, Some, None}
 use Rattle.std.specs.Option.{option_map}
 use Rattle.pm_base.specs.declared.names.Mode.TheVariants.{Off}
 use Rattle.pm_base.specs.declared.names.NodeId.{NodeId}
@@ -10,8 +10,7 @@ use Rattle.pm_base.specs.declared.events.Event.TheVariants.{Ipi}
 use Rattle.pm_ipi.specs.declared.responses.Response.{Response}
 use Rattle.pm_object.specs.declared.object.MasterRec.{MasterRec}
 use Rattle.pm_topology.specs.declared.places.Kind.{Kind}
-use Rattle.pm_topology.specs.declared.places.Kind.TheVariants.{Slave}
-use Rattle.pm_topology.specs.Places.{kind_of}
+use Rattle.pm_topology.specs.Places.{kind_of, slave_of}
 use Rattle.pm_perms.specs.Permits.{may_use}
 use Rattle.pm_procs.specs.Modes.{same_mode}
 use Rattle.pm_state.specs.Nodes.{master_mode}
@@ -31,8 +30,7 @@ use Rattle.pm_clock_tree.specs.Tree.{Seen, Tree, loaded}
 
 -- a node of this kind is a slave
 abbrev pub is_slave : Kind → Bool
-is_slave (Slave s) = true
-is_slave _ = false
+is_slave kind = is_some (slave_of kind)
 
 -- a slave of the chip is in a state other than 0
 abbrev pub is_on : State → NodeId → Bool
