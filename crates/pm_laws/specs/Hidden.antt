@@ -1,12 +1,11 @@
 -- Which events are hidden from what is beyond a border. The border, the object and the event decide it, and no row and no mode.
-use Rattle.std.specs.Prelude.{ℕ, Bool, true, false, not, ◌||◌, Option, Some, None}
+use Rattle.std.specs.Prelude.{ℕ, Bool, true, false, not, ◌||◌, Option, Some, None, option_and_then}
 use Rattle.pm_base.specs.declared.events.Event.{Event}
 use Rattle.pm_base.specs.declared.events.Event.TheVariants.{Ipi, Boot, Wfi, Irq, Gic, Tick}
 use Rattle.pm_ipi.specs.declared.calls.Call.{Call}
 use Rattle.pm_ipi.specs.Calls.{call_of}
 use Rattle.pm_topology.specs.declared.places.Kind.{Kind}
-use Rattle.pm_topology.specs.declared.places.Kind.TheVariants.{Proc, Slave, Power, Unknown}
-use Rattle.pm_topology.specs.Places.{kind_of}
+use Rattle.pm_topology.specs.Places.{kind_of, proc_of}
 use Rattle.pm_state.specs.Members.{owner_at}
 use Rattle.pm_state.specs.State.{State}
 use Rattle.pm_state.specs.Values.{master_place, slave_place}
@@ -27,10 +26,7 @@ is_slave_within border (Some s) = not (border.slave s)
 
 -- the place of the configured master that has the processor of this kind
 abbrev pub owner_by : Kind → State → Option ℕ
-owner_by (Proc p) book = owner_at book.fixed.object book.fixed.topology p
-owner_by (Slave s) book = None
-owner_by (Power w) book = None
-owner_by Unknown book = None
+owner_by kind book = option_and_then (owner_at book.fixed.object book.fixed.topology) (proc_of kind)
 
 -- a call of the shape changes a row on a slave within reach, wakes a processor whose owner is within reach or that nobody has, or
 -- asks a master within reach to suspend, or none
