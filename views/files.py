@@ -6,6 +6,7 @@ import os
 import sys
 
 from faults import STANDARD_INPUT
+from forms import DONE
 from program import BadUse
 from target import Target, take_words
 
@@ -39,16 +40,15 @@ def output_of(view):
 
 
 def write_to(name, view):
-    """Runs a view, and puts what it writes into a file if its exit is 0. If not, that goes to standard output, and the
-    file stays as it was."""
+    """Runs a view, and puts what it writes into a file if it has done its work. If not, the file stays as it was."""
     target = Target(name)
     try:
         status, output = output_of(view)
-        if status == 0:
+        if status in DONE:
             target.put(output)
     finally:
         target.drop()
-    if status != 0:
+    if status not in DONE:
         sys.stdout.buffer.write(output)
     return status
 

@@ -1,4 +1,4 @@
-"""The words that the program takes, and its exits."""
+"""The words that the program takes, its exits, and those of the views."""
 
 # Each form: its first word, and what the words after it name.
 FORMS = {
@@ -15,8 +15,12 @@ WITH_TOPOLOGY = ("replay", "reach", "isolate")
 
 # The exits of the program.
 USAGE, BAD_OBJECT, BAD_LINE, UNREADABLE, UNWRITABLE, NO_MEMORY, TOO_LARGE, BAD_TEXT = range(1, 9)
-# That of the wrapper, if the program wasn't run.
+# That of the wrapper and of the views for all else: wrong words, and a fault of their own.
 NOT_RUN = 125
+# The exits of views that have done their work and found something: a rule is broken, something is to be said of the
+# object, or a record gives a master something that no rule was judged by. What they say is written as with exit 0.
+BROKEN, FOUND, NOT_JUDGED = 101, 102, 103
+DONE = (0, BROKEN, FOUND, NOT_JUDGED)
 
 # The most bytes that are read of each kind of file, in the order in which they are read.
 LIMITS = {"OBJ": 16_384, "TEXT": 1_048_576, "TOPO": 1_048_576, "SCRIPT": 67_108_864}

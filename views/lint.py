@@ -10,6 +10,7 @@ import names
 import objects
 import permits
 import program
+from forms import FOUND
 
 USAGE = "usage: ./pmu lint [--strict] OBJ"
 
@@ -208,4 +209,4 @@ def main(words):
         raise program.BadUse(USAGE)
     shown = list(lines(objects.read(paths[0]), faults.name_of(paths[0])))
     print("".join(line + "\n" for line in shown), end="")
-    return 1 if is_strict and shown else 0
+    return FOUND if is_strict and shown else 0

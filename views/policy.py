@@ -1,4 +1,4 @@
-"""`policy OBJ FILE`: whether an object keeps the rules of a file. It ends with 1 where one is broken.
+"""`policy OBJ FILE`: whether an object keeps the rules of a file. It ends with 101 if one is broken.
 
 A rule is a line: `never MASTER KIND UNIT`, that the unit isn't in the reach of the master, or `only MASTER KIND
 UNIT`, that it is in no other master's reach. KIND is `master`, `slave`, `power` or `line`. Names and numbers are
@@ -13,6 +13,7 @@ import names
 import objects
 import permits
 import program
+from forms import BROKEN
 
 USAGE = "usage: ./pmu policy OBJ FILE"
 
@@ -168,4 +169,4 @@ def main(words):
     shown += ["the records that give each step:", *steps.lines()] if broken else []
     shown += [f"{len(rules) - broken} of {len(rules)} rules hold", *unjudged(found)]
     print("".join(line + "\n" for line in shown), end="")
-    return 1 if broken else 0
+    return BROKEN if broken else 0

@@ -7,6 +7,7 @@ import sys
 import unittest
 
 from common import VIEWS, Case, example, program, view
+from forms import BROKEN, FOUND
 
 
 def view_of_input(given, *words):
@@ -95,12 +96,13 @@ class Files(Case):
         path, lint = self.path("made"), self.written("lint", example("pm_cfg_obj.obj"))
         self.assertEqual(view("lint", example("pm_cfg_obj.obj"), "-o", path), (0, b"", b""))
         self.assertEqual(read(path), lint)
-        self.assertEqual(view("lint", example("pm_cfg_obj.obj"), "--strict", "-o", "/dev/full"), (1, lint, b""))
+        self.assertEqual(view("lint", example("pm_cfg_obj.obj"), "--strict", "-o", path), (FOUND, b"", b""))
+        self.assertEqual(read(path), lint)
         rules = self.file("rules", "never APU slave UART_0\n")
         broken = view("policy", example("laboratory.obj"), rules)
-        self.assertEqual(broken[0], 1)
-        self.assertEqual(view("policy", "-o", path, example("laboratory.obj"), rules), broken)
-        self.assertEqual(read(path), lint)
+        self.assertEqual(broken[0], BROKEN)
+        self.assertEqual(view("policy", "-o", path, example("laboratory.obj"), rules), (BROKEN, b"", broken[2]))
+        self.assertEqual(read(path), broken[1])
         words = ["diff", example("laboratory.obj"), example("denied.script"), "APU"]
         self.assertEqual(view(*words, "-o", path), (0, b"", b""))
         self.assertIn(b"DENIED", read(path))

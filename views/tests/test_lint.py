@@ -9,6 +9,7 @@ import lint
 import objects
 import program as programs
 from common import Case, example, examples, program, view
+from forms import FOUND
 
 TWO = ["header", "section masters", "master 1 1 100 0 0", "master 7 2 100 0 0"]
 THREE = [*TWO, "master 8 4 100 0 0"]
@@ -158,7 +159,7 @@ class Lint(Case):
     def test_the_exit(self):
         clean, full = self.object_of(TWO), self.file("full.obj", programs.read_file(examples("laboratory.obj")[0]))
         self.assertEqual([view("lint", clean)[0], view("lint", "--strict", clean)[0]], [0, 0])
-        self.assertEqual([view("lint", full)[0], view("lint", full, "--strict")[0]], [0, 1])
+        self.assertEqual([view("lint", full)[0], view("lint", full, "--strict")[0]], [0, FOUND])
         self.assertEqual(view("lint", full)[1], view("lint", "--strict", full)[1])
 
     def test_one_master_leads_to_nobody(self):

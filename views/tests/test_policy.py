@@ -4,6 +4,7 @@ import os
 import unittest
 
 from common import Case, examples, program, view
+from forms import BROKEN
 
 TEXT = """header
 section masters
@@ -57,7 +58,7 @@ class Policy(Case):
         ]:
             with self.subTest(rule):
                 status, lines = self.judge(rule + "\n")
-                self.assertEqual(status, 1)
+                self.assertEqual(status, BROKEN)
                 self.assertEqual(lines[:2], [f"FILE:1: {rule}: broken by {rule.split()[1]}", f"  {step}"])
                 for reason in reasons:
                     self.assertIn(f"  {step}: {reason}", lines[2:-2])
@@ -65,7 +66,7 @@ class Policy(Case):
 
     def test_each_path_and_each_record_of_a_breach(self):
         status, lines = self.judge("never RPU_1 slave TCM_0_A\nnever RPU_0 master APU\nnever RPU_1 slave TCM_0_A\n")
-        self.assertEqual(status, 1)
+        self.assertEqual(status, BROKEN)
         paths = [
             "  RPU_1 > slave TCM_0_A",
             "  RPU_1 > RPU_0 > slave TCM_0_A",
@@ -91,7 +92,7 @@ class Policy(Case):
 
     def test_only_speaks_of_all_others(self):
         status, lines = self.judge("only APU slave UART_0\nonly RPU_1 slave UART_0\n")
-        self.assertEqual(status, 1)
+        self.assertEqual(status, BROKEN)
         broken = [line for line in lines if "broken by" in line]
         self.assertEqual(broken, ["FILE:1: only APU slave UART_0: broken by RPU_1", "FILE:2: only RPU_1 slave UART_0: broken by APU"])
         # (a master is in its own reach: that breaks no rule)
@@ -107,7 +108,7 @@ class Policy(Case):
                 members = [(kind, unit) for kind, unit, *_ in members if (kind, unit) != ("master", "1")]
                 status, lines = self.judge("".join(f"never 1 {kind} {unit}\n" for kind, unit in members), path)
                 broken = [line for line in lines if line.endswith(": broken by APU")]
-                self.assertEqual((status, len(broken)), (1, len(members)))
+                self.assertEqual((status, len(broken)), (BROKEN, len(members)))
                 beyond = [slave for slave in range(11, 70) if ("slave", str(slave)) not in members and slave != 62]
                 if beyond:
                     status, lines = self.judge("".join(f"never 1 slave {slave}\n" for slave in beyond), path)
