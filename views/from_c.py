@@ -4,11 +4,14 @@ The file has one array `XPm_ConfigObject` of words. A word is an expression of n
 defines, and of those that the headers of the tools define, which are here.
 """
 
+from typing import Iterator, Optional
+
 import c_source
 import faults
 import names
 import objects
 import program
+from c_expression import Token
 from target import Target
 
 ARRAY = "XPm_ConfigObject"
@@ -32,6 +35,9 @@ DEFINED = {
     "PM_SLAVE_FLAG_IS_SHAREABLE": objects.SHAREABLE,
     "PM_MASTER_USING_SLAVE_MASK": objects.IN_USE,
     "SUSPEND_TIMEOUT": 0xFFFFFFFF,
+    # (a place without a node, and one that had another name before)
+    "NODE_UNKNOWN": 0,
+    "NODE_ID_MA": 70,
     **{f"PM_CONFIG_GPO1_BIT_{bit}_MASK": 1 << bit for bit in range(2, 6)},
     **{f"PM_CONFIG_GPO1_MIO_PIN_{pin}_MAP": 1 << pin - 24 for pin in range(34, 38)},
 }
@@ -40,7 +46,7 @@ DEFINED = {
 PREFIXES = {"node": "NODE_", "reset": "XILPM_RESET_", "capabilities": "PM_CAP_"}
 
 
-def value_of(name):
+def value_of(name: str) -> Optional[int]:
     """The value of a name of the tools' headers, or None."""
     if name in DEFINED:
         return DEFINED[name]
@@ -50,7 +56,7 @@ def value_of(name):
     return None
 
 
-def closing(source, begin):
+def closing(source: c_source.Source, begin: int) -> int:
     """The place of the bracket that closes the one at `begin`."""
     pairs, depth = {"{": 1, "[": 1, "(": 1, "}": -1, "]": -1, ")": -1}, 0
     for place in range(begin, len(source.tokens)):
@@ -60,7 +66,7 @@ def closing(source, begin):
     raise c_source.Refused(source.file, source.tokens[begin].line, "a bracket isn't closed")
 
 
-def arrays(source):
+def arrays(source: c_source.Source) -> Iterator[tuple[list[Token], int, int]]:
     """Of each definition of the array: the tokens of its length, and the places of its two braces."""
     tokens = source.tokens
     for place, token in enumerate(tokens):
@@ -73,7 +79,8 @@ def arrays(source):
             yield tokens[place + 2 : end], begin + 1, closing(source, begin + 1)
 
 
-def the_array(source):
+def the_array(source: c_source.Source) -> tuple[list[Token], int, int]:
+    """The one definition of the array."""
     found = list(arrays(source))
     if not found:
         raise c_source.Refused(source.file, 1, f"no array {ARRAY} is defined")
@@ -82,9 +89,10 @@ def the_array(source):
     return found[0]
 
 
-def elements(source, begin, end):
+def elements(source: c_source.Source, begin: int, end: int) -> Iterator[tuple[list[Token], int]]:
     """The elements between two braces: the tokens of each, and the line at which it ends. A comma may be the last."""
-    element, depth = [], 0
+    element: list[Token] = []
+    depth = 0
     for token in source.tokens[begin + 1 : end]:
         depth += {"(": 1, ")": -1}.get(token.text, 0)
         if token.text == "," and depth == 0:
@@ -96,7 +104,7 @@ def elements(source, begin, end):
         yield element, source.tokens[end].line
 
 
-def words_of(file, text):
+def words_of(file: str, text: str) -> tuple[list[tuple[int, int]], int]:
     """The words of the array, each with its line, and the line at which the array ends."""
     source = c_source.Source(file, text)
     length, begin, end = the_array(source)
@@ -109,7 +117,7 @@ def words_of(file, text):
     return words, last
 
 
-def judged(file, words, last):
+def judged(file: str, words: list[tuple[int, int]], last: int) -> bytes:
     """The bytes of the object. What isn't an object is told with the line of the word where that shows."""
     data = objects.to_bytes([word for word, _ in words])
     try:
@@ -120,7 +128,8 @@ def judged(file, words, last):
     return data
 
 
-def write_file(name, data):
+def write_file(name: str, data: bytes) -> None:
+    """Writes the object beside its name, and puts it there once it is whole."""
     target = Target(name)
     try:
         target.put(data)
@@ -128,7 +137,8 @@ def write_file(name, data):
         target.drop()
 
 
-def main(words):
+def main(words: list[str]) -> int:
+    """Makes the object of a C file, and gives the exit."""
     if len(words) == 3 and words[0] == "-o":
         words = [words[2], *words[:2]]
     if len(words) != 3 or words[1] != "-o":

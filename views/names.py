@@ -294,7 +294,11 @@ PREFIXES = {
 
 # Other names for the same, as Linux or TF-A have them.
 ALIASES = {
-    "node": {f"OCM_{k}": f"OCM_BANK_{k}" for k in range(4)},
+    "node": {
+        **{f"OCM_{k}": f"OCM_BANK_{k}" for k in range(4)},
+        **{f"R5_{core}_{bank}TCM": f"TCM_{core}_{bank}" for core in range(2) for bank in "AB"},
+    },
+    "reset": {f"GPIO5_EMIO_{92 + k}": f"PS_PL{k}" for k in range(4)},
     "call": {
         "PM_INIT_FINALIZE": "INIT_FINALIZE",
         "REQ_SUSPEND": "REQUEST_SUSPEND",
