@@ -1,6 +1,6 @@
 //! Runs whose first lines attach objects, which can be put in force.
 
-use super::checks::{check, check_joined};
+use super::checks::check_joined;
 use pm_base::Exit;
 use pm_fixtures::{Asked, OBJECT_CLOSED, OBJECT_LOADED};
 use std::test::Fail;
@@ -11,55 +11,8 @@ const CONFIGURED: &[u32] = &[
     0x107, 1, 0,
 ];
 
-/// An object is put in force in which slave 33 is master 7's.
-const EXCHANGED: &str = "object 4096 2 2 1 257 2 1 1 100 0 0 7 256 100 0 0 258 1 33 0 256
-ipi 1 21
-ipi 1 13 33 1 0 2
-ipi 1 2 8192
-ipi 1 2 4096
-ipi 1 13 33 1 0 2
-boot 7 0
-ipi 7 13 33 1 0 2
-ipi 1 2 4096
-";
-
 /// A script, what it writes behind the load, what it writes at its end, and the exit.
-static RUNS: [(&str, &str, &str, Exit); 9] = [
-    (
-        EXCHANGED,
-        "2 set 11 2 0
-2 set 33 1 0
-2 reply 1 0 0 0 0
-3 set 33 0 1
-3 reply 1 0 0 0 0
-4 reply 1 15 0 0 0
-5 set 33 1 0
-5 reply 1 0 0 0 0
-6 reply 1 2002 0 0 0
-7 set 6 0 1
-7 set 7 0 1
-7 run 7 0
-8 set 33 0 1
-8 reply 7 0 0 0 0
-9 reply 1 2002 0 0 0
-",
-        "end power 1 1 1
-end proc 2 1 1
-end power 6 1 1
-end proc 7 1 1
-end power 10 1 1
-end slave 33 1 1
-end power 62 1 1
-",
-        Exit::Done,
-    ),
-    // words that are no object, and words that come too late
-    (
-        "object 8 1\nipi 1 2 8\nobject 8 1\n",
-        "2 reply 1 15 4 0 0\n3 late 8\n",
-        OBJECT_CLOSED,
-        Exit::Done,
-    ),
+static RUNS: [(&str, &str, &str, Exit); 7] = [
     // no words
     (
         "object 8\nipi 1 2 8\n",
@@ -151,26 +104,4 @@ fn a_read_that_fails_in_the_block_is_told_after_the_load(rt: HostRuntime) -> Res
         &[OBJECT_LOADED, "fault read\n"],
         Exit::ReadFault,
     )
-}
-
-/// What master 7 reaches where an object attached gives it slave 33.
-const REACHED: &str = "master 7 self 7
-slave 11 use 7
-slave 33 use 7
-power 6 above 7
-power 62 above 7
-differ slave 33
-steps 9
-";
-
-#[test]
-fn a_reach_is_over_all_objects_of_a_run(rt: HostRuntime) -> Result<(), Fail> {
-    let asked = Asked {
-        words: "isolate obj script 7",
-        object: CONFIGURED,
-        script: EXCHANGED.as_bytes(),
-        failing: &[],
-        topology: &[],
-    };
-    check(&rt, &asked, None, REACHED.as_bytes(), Exit::Done)
 }
