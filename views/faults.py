@@ -12,22 +12,10 @@ from forms import (
     BAD_LINE, BAD_OBJECT, BAD_TEXT, FORMS, LIMITS, MOST_LINES, NO_MEMORY, TOO_LARGE, UNREADABLE, UNWRITABLE, USAGE, files_of, form_of,
     forms_of,
 )  # fmt: skip
-from lines import EVENTS, RECORDS, count, first_fault, form_fault, like, number_of, words_of
+from grammar import SCRIPT, TOPOLOGY
+from lines import count, first_fault, like, number_of, words_of
+from object_faults import object_sentence, text_cause
 
-SECTIONS = {
-    0x101: "masters", 0x102: "slaves", 0x103: "prealloc", 0x104: "power", 0x105: "reset", 0x106: "shutdown",
-    0x107: "config", 0x108: "gpo",
-}  # fmt: skip
-# The section in which a record of an object's text stands.
-HOMES = {
-    "master": "masters", "slave": "slaves", "group": "prealloc", "prefer": "prealloc", "power": "power", "reset": "reset",
-    "shutdown": "shutdown", "config": "config", "gpo": "gpo",
-}  # fmt: skip
-# The lines of the text of a topology, in the order of their kinds.
-TOPOLOGY_LINES = {
-    "power": "NODE PARENT HELD FIGURE LATENCY", "proc": "NODE PARENT FIGURE LATENCY", "slave": "NODE PARENT",
-    "state": "CAPS LATENCY POWERED FIGURE", "line": "LINE TARGET", "owner": "NODE PROC, with up to 15 more PROC",
-}  # fmt: skip
 STANDARD_INPUT = "/dev/stdin"
 HELP = "./pmu --help has the forms"
 # The first words that the wrapper takes besides those of the program.
@@ -102,9 +90,9 @@ def kind_of(data):
         return "is an object"
     if word in ("header", "section", "master"):
         return "is the text of an object"
-    if word in TOPOLOGY_LINES:
+    if word in TOPOLOGY:
         return "is the text of a topology"
-    if word in EVENTS:
+    if word in SCRIPT:
         return "is a script"
     if all(byte in b"\t\n\r" or 0x20 <= byte <= 0x7E for byte in data[:256]):
         return "is a text"
@@ -151,24 +139,6 @@ def taken_by(first):
     return f"{names}, which is {count(len(forms[0]), 'word')}" if names else "no word after it"
 
 
-def object_causes(word, offset, size):
-    """The sentence of each cause of a bad object at an offset in words, with the word that stands there."""
-    return {
-        1: f"its {size} bytes are no whole number of words of four bytes",
-        2: f"it has more than {LIMITS['OBJ']} bytes",
-        3: f"it ends after {count(offset, 'word')}, in the middle of a section or of the header",
-        4: f"word 0: the header says {word}, and has at least 2 words after this one",
-        5: f"word {offset}: the type of the object is {word}, and only 1 is read",
-        6: f"word {offset}: no such section: {word:#x}",
-        7: f"word {offset}: the section {SECTIONS.get(word, word)} came before",
-        8: f"word {offset}: the first section has to be that of the masters, with one master or more",
-        9: f"word {offset}: node {word} is no master here (1, 6, 7 and 8 are, and 6 not beside 7 or 8)",
-        10: f"word {offset}: the mask {word:#x} isn't one bit that no earlier master has",
-        11: f"word {offset}: an earlier record of the section has {word} too",
-        12: f"word {offset}: the object has all its sections before it, and {count(size // 4 - offset, 'word')} too many",
-    }
-
-
 def bad_object(run):
     path, name = run.file("OBJ")
     data = content(path, LIMITS["OBJ"] + 1)
@@ -181,15 +151,7 @@ def bad_object(run):
     other = misplaced(name, data, "an object")
     if other:
         return other
-    word = int.from_bytes(data[4 * offset : 4 * offset + 4], "little")
-    header = int.from_bytes(data[:4], "little")
-    if cause == 3 and header >= offset > 0:
-        sentence = f"word 0: the header says {count(header, 'word')} after it, and the file has {offset - 1}"
-    else:
-        sentence = object_causes(word, offset, len(data))[cause]
-    turned = int.from_bytes(data[:4], "big") < 64 <= header
-    hint = " (its words have the most significant byte first, and an object's have it last)" if turned else ""
-    return f"{name}: {sentence}{hint}"
+    return f"{name}: {object_sentence(cause, offset, data)}"
 
 
 def bad_line(run):
@@ -257,82 +219,6 @@ def too_large(run):
     return f"{name}: the script has more than {LIMITS['SCRIPT']} bytes"
 
 
-def section_before(lines):
-    """The section that is open after these lines of an object's text, and the number of its line."""
-    for number in range(len(lines), 0, -1):
-        words = words_of(lines[number - 1])
-        if words[:1] == ["section"]:
-            return words[1], number
-    return None, 0
-
-
-def same_before(lines, words):
-    """The number of an earlier line that a repeated line of an object's text repeats."""
-    for number in range(len(lines), 0, -1):
-        earlier = words_of(lines[number - 1])
-        if earlier[:1] == words[:1] and keys(earlier) == keys(words):
-            return number
-    return 0
-
-
-def keys(words):
-    return [number_of(word) if number_of(word) is not None else word for word in words[:2]]
-
-
-def out_of_place(before, words):
-    section, at = section_before(before)
-    begun = any(words_of(line) for line in before)
-    first = words[0] if words else ""
-    if not begun and first != "header":
-        return "the line is out of place: a header line comes first"
-    if first == "header":
-        return "the line is out of place: a header line stands at the head, and a further one only after one of 16 words"
-    if section in ("config", "gpo") and (first in ("section", "") or HOMES.get(first) != section):
-        filled = any(words_of(line) for line in before[at:])
-        if not filled:
-            return f"the line is out of place: the section {section} of line {at} has no record yet"
-    home = HOMES.get(first)
-    if home == section and first == "prefer":
-        return "the line is out of place: 'prefer' stands after a 'group'"
-    if home == section:
-        return f"the line is out of place: the section {section} has its one record already"
-    where = f"in the section {section}" if section else "before the first section"
-    return f"the line is out of place: '{first}' stands in the section {home}, and this is {where}"
-
-
-def not_of_masters(before, words):
-    section, at = section_before(before)
-    if words[:1] == ["master"]:
-        node, mask = number_of(words[1]), number_of(words[2])
-        nodes = [number_of(words_of(line)[1]) for line in before if words_of(line)[:1] == ["master"]]
-        split = node == 6 and {7, 8} & {*nodes} or node in (7, 8) and 6 in nodes
-        if node not in (1, 6, 7, 8):
-            return f"node {node} is no master: 1, 6, 7 and 8 are"
-        if split:
-            return f"master {node} can't stand beside master {' and '.join(str(it) for it in nodes if it != 1)}"
-        return f"the mask {mask:#x} of master {node} isn't one bit that no earlier master has"
-    if section:
-        return f"the section masters of line {at} has no master"
-    return "the first section has to be that of the masters"
-
-
-def text_cause(cause, before, line, is_end):
-    """The sentence of a cause of a bad text at a line, with the lines before it."""
-    words = words_of(line)
-    if cause == 1:
-        return form_fault(line)
-    if cause == 2 and is_end and not any(words_of(it) for it in before):
-        return "the text has no header"
-    if cause == 2:
-        return out_of_place(before, words)
-    if cause == 3:
-        what = " ".join(words[:2])
-        return f"'{what}' came before, in line {same_before(before, words)}"
-    if cause == 4:
-        return "the text has no section of masters" if is_end and not section_before(before)[0] else not_of_masters(before, words)
-    return f"the object has more than {LIMITS['OBJ'] // 4} words by this line"
-
-
 def no_master(run):
     path, name = run.file("OBJ")
     lines = (words_of(line) for line in written_by(run.program, "print", path).split(b"\n"))
@@ -350,12 +236,12 @@ def topology_text_cause(number, cause, lines):
         return f"it has more than {LIMITS['TOPO']} bytes"
     words = words_of(lines[number - 1]) if number <= len(lines) else []
     first = words[0] if words else ""
-    if cause == 1 and first not in TOPOLOGY_LINES:
-        return f"no line begins with '{first}'{like(first, TOPOLOGY_LINES)}"
+    if cause == 1 and first not in TOPOLOGY:
+        return f"no line begins with '{first}'{like(first, TOPOLOGY)}"
     if cause == 1:
-        return f"the line takes {first} {TOPOLOGY_LINES[first]}, numbers within their limits"
+        return f"the line takes {first} {TOPOLOGY[first]}, numbers within their limits"
     if cause == 2:
-        return f"the line is out of place: the kinds come in the order {', '.join(TOPOLOGY_LINES)}, and each state after its slave"
+        return f"the line is out of place: the kinds come in the order {', '.join(TOPOLOGY)}, and each state after its slave"
     return f"{words[2] if len(words) > 2 else 'the parent'} is the node of no 'power' line before this one"
 
 

@@ -1,23 +1,16 @@
-"""The lines of a script and of an object's text: their words, and what is wrong with one."""
+"""The lines of a script and of an object's text: their words and numbers, and what is wrong with one."""
+
 import difflib
 import re
+from typing import Collection, Iterable, Optional, Union
+
+import grammar
 
 LONGEST = 255
 
-# The first word of each line of a script, with the words that it takes after it: at least, at most.
-EVENTS = {
-    "ipi": (2, 7), "boot": (2, 2), "wfi": (1, 1), "irq": (1, 1), "gic": (1, 1), "tick": (1, 1),
-    "post": (2, 7), "serve": (0, 0), "smc": (2, 5), "task": (2, 2), "cancel": (1, 1), "break": (1, 1), "mend": (1, 1),
-    "object": (1, 124),
-}  # fmt: skip
-# The words after the first one of a line that may have 64 bits, by their places; all others have 32.
-WIDE = {"boot": (2,), "smc": (3, 4, 5)}
-# The same of an object's text; a section is followed by its name.
-RECORDS = {
-    "header": (0, 16), "section": (1, 1), "master": (5, 5), "slave": (3, 3), "group": (1, 1), "prefer": (4, 4),
-    "power": (2, 2), "reset": (2, 2), "shutdown": (2, 2), "config": (2, 2), "gpo": (1, 1),
-}  # fmt: skip
-SECTIONS = ("masters", "slaves", "prealloc", "power", "reset", "shutdown", "config", "gpo")
+# What a number of very many digits is read as, which fits nowhere: Python itself reads no more than 4,300 digits.
+UNFIT = 1 << 128
+MOST_DIGITS = 38
 
 # A line of a script that certainly means something. It decides most lines at once.
 GOOD = re.compile(
@@ -28,38 +21,48 @@ GOOD = re.compile(
 )
 
 
-def without_return(line):
+def without_return(line: bytes) -> bytes:
     """A line without the carriage return at its end, if it has one."""
     return line[:-1] if line.endswith(b"\r") else line
 
 
-def words_of(line):
+def placed_words(line: str) -> list[tuple[int, str]]:
+    """The words of a line without its comment, each with the place at which it begins. A comment begins with a word."""
+    found = []
+    for match in re.finditer(r"[^ \t]+", line[:-1] if line.endswith("\r") else line):
+        if match.group().startswith("#"):
+            break
+        found.append((match.start(), match.group()))
+    return found
+
+
+def words_of(line: Union[bytes, str]) -> list[str]:
     """The words of a line, without its comment and its carriage return."""
-    words = without_return(line).replace(b"\t", b" ").split(b" ")
-    words = [word.decode("latin-1") for word in words if word]
-    comment = next((k for k, word in enumerate(words) if word.startswith("#")), len(words))
-    return words[:comment]
+    return [word for _, word in placed_words(line.decode("latin-1") if isinstance(line, bytes) else line)]
 
 
-def number_of(word):
-    """The number that a word stands for, or None."""
+def number_of(word: str) -> Optional[int]:
+    """The number that a word stands for as scripts, texts and the program's words have it, or None."""
     if re.fullmatch(r"0x[0-9a-fA-F]+", word):
         return int(word, 16)
-    return int(word) if re.fullmatch(r"[0-9]+", word) else None
+    if not re.fullmatch(r"[0-9]+", word):
+        return None
+    digits = word.lstrip("0")
+    return int(digits or "0") if len(digits) <= MOST_DIGITS else UNFIT
 
 
-def like(word, known):
+def like(word: str, known: Iterable[str]) -> str:
     """A hint at the known word that is most like this one, if one is."""
     found = difflib.get_close_matches(word.lower(), known, 1)
     return f" (did you mean '{found[0]}'?)" if found else ""
 
 
-def count(number, what):
+def count(number: int, what: str) -> str:
     """A number of things, in words."""
     return f"{number} {what}" + "s" * (number != 1)
 
 
-def unreadable(line):
+def unreadable(line: bytes) -> Optional[tuple[int, str]]:
     """Why a line isn't read at all, with its cause in a script, or None."""
     if len(line) > LONGEST:
         return 4, f"the line has {len(line)} bytes, and the most is {LONGEST}"
@@ -69,7 +72,7 @@ def unreadable(line):
     return None
 
 
-def wrong_count(words, least, most):
+def wrong_count(words: list[str], least: int, most: int) -> Optional[str]:
     """Why a line has not the words that its first one takes, or None."""
     has = len(words) - 1
     if least <= has <= most:
@@ -78,11 +81,11 @@ def wrong_count(words, least, most):
     return f"'{words[0]}' takes {wanted} after it, and {has} {'is' if has == 1 else 'are'} here"
 
 
-def wrong_number(words, places=()):
-    """Why a word of a line is no number that fits, or None. The words at these places have 64 bits."""
-    for k, word in enumerate(words[1:], 1):
-        value, wide = number_of(word), 64 if k in places else 32
-        k += 1
+def wrong_number(words: list[str], kinds: Collection[str] = ()) -> Optional[str]:
+    """Why a word of a line is no number that fits, or None. The words after the first one are of these kinds."""
+    wide_places = [k for k, kind in enumerate(kinds, 2) if kind in grammar.WIDE]
+    for k, word in enumerate(words[1:], 2):
+        value, wide = number_of(word), 64 if k in wide_places else 32
         if value is None:
             return f"a number is wanted in word {k}, not '{word}'"
         if value >= 1 << wide:
@@ -90,24 +93,25 @@ def wrong_number(words, places=()):
     return None
 
 
-def script_fault(line):
+def script_fault(line: bytes) -> Optional[tuple[int, str]]:
     """The cause and the sentence of what is wrong with a line of a script, or None."""
-    found = unreadable(line)
-    if found:
-        return found
+    unread = unreadable(line)
+    if unread:
+        return unread
     words = words_of(line)
     if not words:
         return None
-    if words[0] not in EVENTS:
-        return 1, f"no line of a script begins with '{words[0]}'{like(words[0], EVENTS)}"
-    found = wrong_count(words, *EVENTS[words[0]])
+    if words[0] not in grammar.SCRIPT:
+        return 1, f"no line of a script begins with '{words[0]}'{like(words[0], grammar.SCRIPT)}"
+    form = grammar.SCRIPT[words[0]]
+    found = wrong_count(words, form.least, form.most)
     if found:
         return 3, found
-    found = wrong_number(words, WIDE.get(words[0], ()))
+    found = wrong_number(words, form.kinds)
     return (2, found) if found else None
 
 
-def first_fault(script):
+def first_fault(script: bytes) -> Optional[tuple[int, int, str]]:
     """The number of the first line of a script with no meaning, its cause and the sentence of what is wrong; or None."""
     for number, line in enumerate(script.split(b"\n"), 1):
         if not (len(line) <= LONGEST and GOOD.fullmatch(line)):
@@ -117,18 +121,19 @@ def first_fault(script):
     return None
 
 
-def form_fault(line):
+def form_fault(line: bytes) -> Optional[str]:
     """What is wrong with the form of a line of an object's text, or None."""
-    found = unreadable(line)
-    if found:
-        return found[1]
+    unread = unreadable(line)
+    if unread:
+        return unread[1]
     words = words_of(line)
     if not words:
         return None
-    if words[0] not in RECORDS:
-        return f"no line of an object's text begins with '{words[0]}'{like(words[0], RECORDS)}"
-    found = wrong_count(words, *RECORDS[words[0]])
+    if words[0] not in grammar.TEXT:
+        return f"no line of an object's text begins with '{words[0]}'{like(words[0], grammar.TEXT)}"
+    form = grammar.TEXT[words[0]]
+    found = wrong_count(words, form.least, form.most)
     if not found and words[0] == "section":
-        known = words[1] in SECTIONS
-        return None if known else f"no section is named '{words[1]}'{like(words[1], SECTIONS)}"
+        known = [section.name for section in grammar.SECTIONS.values()]
+        return None if words[1] in known else f"no section is named '{words[1]}'{like(words[1], known)}"
     return found or wrong_number(words)

@@ -1,5 +1,6 @@
 """A line of a script or of the text of an object with names in place of its numbers; `to_numbers.py` reads it again."""
 
+import lines
 import names
 import to_numbers
 
@@ -18,7 +19,7 @@ def ipi_mask_name(mask):
 
 def word_in_names(kind, word, masters):
     """A number of a kind by its name, or the word as it is where it has none."""
-    value = to_numbers.value_of(word)
+    value = lines.number_of(word)
     if value is None:
         return word
     if kind == "mask":
@@ -33,7 +34,7 @@ def word_in_names(kind, word, masters):
 
 def line_in_names(line, masters):
     """A line without its comment, with single spaces; `masters` has the mask of each master of a text."""
-    words = [word for _, word in to_numbers.words_of(line)]
+    words = lines.words_of(line)
     kinds = (to_numbers.kinds_of(words) or ()) if words else ()
     named = [word_in_names(kind, word, masters) for kind, word in zip(kinds, words[1:])]
     return " ".join(words[:1] + named + words[1 + len(named) :])

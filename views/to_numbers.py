@@ -11,28 +11,10 @@ import re
 import sys
 
 import faults
+import grammar
+import lines
 import names
 from program import BadUse, read_file
-
-# The words after the first one of a line of a script, by what they mean; those of a message say it themselves.
-SCRIPT = {"boot": ("node", "address"), "wfi": ("node",), "irq": ("node",), "gic": ("node",), "tick": ("time",)}
-SCRIPT |= {"task": ("key", "interval"), "cancel": ("key",)}
-SCRIPT |= {"break": ("node",), "mend": ("node",), "smc": ("node", "function", "argument", "argument", "argument")}
-
-# The first words of lines with a message.
-MESSAGES = ("ipi", "post")
-
-# The same of the text of an object.
-TEXT = {
-    "master": ("node", "own mask", "timeout", "mask", "mask"),
-    "slave": ("node", "slave flags", "mask"),
-    "group": ("mask",),
-    "prefer": ("node", "use flags", "capabilities", "capabilities"),
-    "power": ("node", "mask"),
-    "reset": ("line", "mask"),
-    "shutdown": ("shutdown subtype", "mask"),
-    "config": ("mask", "mask"),
-}
 
 # Kinds whose one is called otherwise in a fault.
 SAID = {
@@ -44,19 +26,15 @@ SAID = {
     "use flags": "flag of a preallocation",
 }
 
+# (for the views that aren't this one's)
+words_of, value_of, MESSAGES = lines.placed_words, lines.number_of, grammar.MESSAGES
+
 SETS = ("mask", *names.SETS)
 NAME = re.compile(r"[A-Za-z_][A-Za-z0-9_]*(\|[A-Za-z0-9_]+)*|\d\w*(\|\w+)+")
 
 
 class Unknown(Exception):
     """A name that isn't known in its place."""
-
-
-def value_of(word):
-    """The value of a number as scripts and texts have it, or None."""
-    if re.fullmatch(r"0x[0-9A-Fa-f]+", word):
-        return int(word, 16)
-    return int(word) if re.fullmatch(r"[0-9]+", word) else None
 
 
 def number_of(kind, name, masters):
@@ -70,7 +48,7 @@ def number_of(kind, name, masters):
 
 def bits_of(kind, word, masters):
     """The bits of a set that is written `ACCESS|CONTEXT`, with numbers between the names or not; None if one is unknown."""
-    parts = [value_of(part) if part[0].isdigit() else number_of(kind, part, masters) for part in word.split("|")]
+    parts = [lines.number_of(part) if part[0].isdigit() else number_of(kind, part, masters) for part in word.split("|")]
     return None if None in parts else functools.reduce(operator.or_, parts)
 
 
@@ -97,32 +75,22 @@ def kinds_of_message(words):
     """Of a line `ipi M API ..` or `post M API ..`: what its words mean, as far as its call says."""
     number = names.number_of("call", words[2]) if len(words) > 2 else None
     if number is None and len(words) > 2:
-        number = value_of(words[2])
+        number = lines.number_of(words[2])
     call = names.CALLS.get(number)
     return ("node", "call", *(call.arguments or () if call else ()))
 
 
 def kinds_of(words):
     """What the words after the first one of a line mean, or None of a line that has no such first word."""
-    if words[0] in MESSAGES:
+    if words[0] in grammar.MESSAGES:
         return kinds_of_message(words)
-    return SCRIPT.get(words[0], TEXT.get(words[0]))
-
-
-def words_of(line):
-    """The words of a line before its comment, each with the place at which it begins."""
-    found = []
-    for match in re.finditer(r"[^ \t]+", line):
-        if match.group().startswith("#"):
-            break
-        found.append((match.start(), match.group()))
-    return found
+    form = grammar.SCRIPT.get(words[0], grammar.TEXT.get(words[0]))
+    return form.kinds if form and form.kinds else None
 
 
 def line_in_numbers(line, masters):
     """A line without its end, with numbers in place of names."""
-    body = line[:-1] if line.endswith("\r") else line
-    found = words_of(body)
+    found = lines.placed_words(line)
     kinds = kinds_of([word for _, word in found]) if found else None
     if kinds is None:
         return line
@@ -134,14 +102,14 @@ def line_in_numbers(line, masters):
     return made + line[end:]
 
 
-def masters_of(lines):
+def masters_of(text):
     """The mask of each master, by the `master` lines of a text."""
     masters = {}
-    for line in lines:
-        words = [word for _, word in words_of(line.rstrip("\r"))]
+    for line in text:
+        words = lines.words_of(line)
         if len(words) > 2 and words[0] == "master":
-            node = names.number_of("node", words[1]) or value_of(words[1])
-            mask = names.IPI_MASKS.get(names.number_of("node", words[2])) or value_of(words[2])
+            node = names.number_of("node", words[1]) or lines.number_of(words[1])
+            mask = names.IPI_MASKS.get(names.number_of("node", words[2])) or lines.number_of(words[2])
             if node is not None and mask is not None:
                 masters.setdefault(node, mask)
     return masters
@@ -149,9 +117,9 @@ def masters_of(lines):
 
 def in_numbers(content, name):
     """The content of a file, a script or a text, with numbers in place of names. A fault is told with its line."""
-    lines = content.decode("latin-1").split("\n")
-    masters, made = masters_of(lines), []
-    for number, line in enumerate(lines, 1):
+    text = content.decode("latin-1").split("\n")
+    masters, made = masters_of(text), []
+    for number, line in enumerate(text, 1):
         try:
             made.append(line_in_numbers(line, masters))
         except Unknown as fault:

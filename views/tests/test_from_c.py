@@ -11,6 +11,7 @@ import unittest
 import unittest.mock
 
 import from_c
+import grammar
 import names
 import objects
 import program as programs
@@ -312,7 +313,7 @@ class Refused(Case):
             file = self.file("bad.c", "u32 XPm_ConfigObject[] = {" + ",\n".join(map(str, words)) + "\n" * (words != []) + "};")
             made = self.file("made.obj", b"before")
             message = self.refused("from-c", file, "-o", made)
-            self.assertTrue(message.startswith(f"pmu: {file}:{line}: byte ") and message.endswith(f"(fault object {fault})"), message)
+            self.assertTrue(message.startswith(f"pmu: {file}:{line}: ") and message.endswith(f"(fault object {fault})"), message)
             self.assertEqual(programs.read_file(made), b"before")
 
     def test_no_program_is_needed(self):
@@ -360,7 +361,7 @@ class Names(Case):
 
     def test_the_section_identifiers_are_those_of_the_object(self):
         found = {value for name, value in from_c.DEFINED.items() if name.endswith("_SECTION_ID")}
-        self.assertEqual(found, set(objects.SECTIONS))
+        self.assertEqual(found, set(grammar.SECTIONS))
 
 
 if __name__ == "__main__":

@@ -172,11 +172,11 @@ class Lint(Case):
 
     def test_what_is_no_object_is_told(self):
         bad = self.file("bad.obj", objects.to_bytes([2, 1, 1, 0x101, 1, 1, 3, 100, 0, 0]))
-        fault = "byte 24: the mask of a master is one bit, which no other master has (fault object 10 6)"
+        fault = "word 6: the mask 0x3 isn't one bit that no earlier master has (fault object 10 6)"
         self.assertEqual(self.refused("lint", bad), f"pmu: {bad}: {fault}")
         for name in ("laboratory.txt", "pm_cfg_obj.c"):
             self.assertIn(f"{name}: this is a text, and no object: ", self.refused("lint", example(name)))
-        self.assertIn("missing (fault object 3 0)", self.refused("lint", self.file("empty.obj", b"")))
+        self.assertIn("it ends after 0 words, in the middle of a section or of the header (fault object 3 0)", self.refused("lint", self.file("empty.obj", b"")))
         self.assertIn("none: No such file", self.refused("lint", os.path.join(os.path.dirname(bad), "none")))
 
     def test_no_program_is_needed(self):

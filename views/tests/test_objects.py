@@ -5,6 +5,7 @@ import os
 import random
 import unittest
 
+import grammar
 import objects
 import program as programs
 from common import TOP, Case, examples, program
@@ -14,7 +15,7 @@ def text_of(found):
     """The text of an object, as the program prints it, without its header."""
     lines = []
     for section in found.sections:
-        lines.append("section " + objects.SECTIONS[section.identifier][0])
+        lines.append("section " + grammar.SECTIONS[section.identifier].name)
         lines += map(str, section.records)
     return lines
 
@@ -62,7 +63,7 @@ class Objects(Case):
         try:
             objects.decode(data)
         except objects.Fault as fault:
-            self.assertIn(f"byte {4 * fault.place}: ", str(fault))
+            self.assertTrue(str(fault).endswith(f" (fault object {fault.cause} {fault.place})"), fault)
             return f"fault object {fault.cause} {fault.place}\n"
         return ""
 
@@ -93,11 +94,20 @@ class Objects(Case):
             "11 18": objects.to_bytes([2, 2, *good[2:], 0x103, 1, 1, 2, 33, 0, 0, 0, 33]),
             "12 10": objects.to_bytes([*good, 0]),
         }
-        self.assertEqual({fault.split()[0] for fault in faults}, set(map(str, objects.FAULTS)))
+        self.assertEqual({fault.split()[0] for fault in faults}, set(map(str, range(1, 13))))
         for fault, data in faults.items():
             with self.subTest(fault):
                 self.assertEqual(self.fault_of(data), f"fault object {fault}\n")
-                self.assertEqual(program("print", self.file("bad.obj", data))[:2], (2, f"fault object {fault}\n".encode()))
+                path = self.file("bad.obj", data)
+                self.assertEqual(program("print", path)[:2], (2, f"fault object {fault}\n".encode()))
+                # (one sentence for one fault, but where the file looks like another kind of file)
+                with self.assertRaises(programs.Failed) as failed:
+                    programs.run(["print", path])
+                with self.assertRaises(programs.BadUse) as ours:
+                    objects.read(path)
+                said = str(ours.exception).replace(f" (fault object {fault})", "")
+                if " is wanted" not in failed.exception.sentence and "no object" not in said:
+                    self.assertEqual(failed.exception.sentence, said)
 
     def test_the_faults_of_the_cases_and_of_objects_that_are_changed_by_chance(self):
         paths = sorted(glob.glob(os.path.join(TOP, "cases", "object_*", "obj"))) + examples(".obj")
