@@ -23,10 +23,10 @@ below a b e = grind (arith, nat_tests)
 pub not_at : (a b : ℕ) → a < b → nat_le b a ≡ false
 not_at a b e = grind (arith, nat_tests)
 
-upto : (a b : ℕ) → nat_lt b a ≡ false → a ≤ b
+pub upto : (a b : ℕ) → nat_lt b a ≡ false → a ≤ b
 upto a b e = grind (arith, nat_tests)
 
-not_past : (a b : ℕ) → a ≤ b → nat_lt b a ≡ false
+pub not_past : (a b : ℕ) → a ≤ b → nat_lt b a ≡ false
 not_past a b e = grind (arith, nat_tests)
 
 pub some_of : (a : ℕ) → (a == 0) ≡ false → 0 < a
@@ -97,7 +97,7 @@ proc_kept t k p keeps =
     (passed _ Repeated _ (none_of _ _ keeps.no_power keeps.new)
     (passed _ ParentLate _ (not_at p.parent (length t.powers) keeps.parent) refl))
 
-full_at : (states : List SlaveState) (last : Option SlaveState)
+pub full_at : (states : List SlaveState) (last : Option SlaveState)
     → slice_get states (length states - 1) ≡ last
     → 0 < length states → length states ≤ 4
     → option_map_or (is_full states) last false ≡ true
@@ -114,7 +114,7 @@ full_at states (Some last) is some few e =
       full = λ k s here. eqb-true (bit_and last.caps.0 s.caps.0) s.caps.0 (all_at (covers last) states two.1 k s here);
     }
 
-full_from : (states : List SlaveState) (last : Option SlaveState)
+pub full_from : (states : List SlaveState) (last : Option SlaveState)
     → slice_get states (length states - 1) ≡ last
     → HasFullLast states
     → option_map_or (is_full states) last false ≡ true

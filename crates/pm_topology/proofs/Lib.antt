@@ -2,6 +2,8 @@ pub mod Entries
 pub mod Causes
 pub mod MastersLaw
 pub mod WellFormedLaw
+pub mod RulesLaw
+pub mod FirstBrokenLaw
 pub mod Upwards
 pub mod BelowLaw
 pub mod KindLaw

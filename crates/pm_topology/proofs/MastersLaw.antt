@@ -12,6 +12,7 @@ use Rattle.pm_topology.specs.declared.faults.TopoCause.TheVariants.{Repeated, To
 use Rattle.pm_topology.specs.declared.faults.TopoFault.{TopoFault}
 use Rattle.pm_topology.specs.FirstFault.{has_proc, is_bad_member, has_bad_members, overlap, master_cause, has_all_masters, missing_master}
 use Rattle.pm_topology.specs.Masters.{master_numbers, is_master_number, is_half_of, may_have, has_twice, share, may_share}
+use Rattle.pm_topology.specs.Rules.{HasGoodMembers}
 use Rattle.pm_topology.specs.WellFormed.{EachEntry, AreDistinct, IsProc, ObeysMasterRules}
 use Rattle.pm_topology.proofs.Entries.{pass, passed, absent_before, absent_before-from, number_at, number_from}
 use Rattle.pm_topology.proofs.Causes.{below, not_at, some_of, not_none, denied, affirmed, all_at, all_from}
@@ -58,12 +59,12 @@ share_back m n shares =
     present_from (λ (q : NodeId). list_any (λ (p : NodeId). p.0 == q.0) m.procs) n.procs other.0 q other.2
     (present_from (λ (x : NodeId). x.0 == q.0) m.procs one.0 p one.2 (equal p.0 q.0 (sym (eqb-true q.0 p.0 other.3))))
 
-may_where : (shared may : Bool) → (shared && not may) ≡ false → shared ≡ true → may ≡ true
+pub may_where : (shared may : Bool) → (shared && not may) ≡ false → shared ≡ true → may ≡ true
 may_where true true e shares = refl
 may_where true false e shares = cc
 may_where false may e shares = cc
 
-no_overlap : (shared may : Bool) → (shared ≡ true → may ≡ true) → (shared && not may) ≡ false
+pub no_overlap : (shared may : Bool) → (shared ≡ true → may ≡ true) → (shared && not may) ≡ false
 no_overlap true may f = affirmed may (f refl)
 no_overlap false may f = refl
 
@@ -114,24 +115,46 @@ pub record MasterKeeps (t : Topology) (k : ℕ) (m : MasterDef) : Type 0 where
   pub once : AreDistinct (λ p. p.0) m.procs
   pub apart : list_any (overlap m) (take k t.masters) ≡ false
 
+pub members_where : (t : Topology) (m : MasterDef) → has_bad_members t m ≡ false → HasGoodMembers t m
+members_where t m good =
+    let number = neither (not (is_master_number m.node.0)) _ good in
+    let some = neither (length m.procs == 0) _ number.1 in
+    let each = neither (list_any (is_bad_member t m.node.0) m.procs) (has_twice m.procs) some.1 in
+    let member : EachEntry m.procs (λ _ n. is_bad_member t m.node.0 n ≡ false) = absent_at (is_bad_member t m.node.0) m.procs each.0 in
+    record {
+      number = denied _ number.0;
+      some = some_of (length m.procs) some.0;
+      members = λ j n here. number_at (λ (p : ProcDef). p.node.0) t.procs n.0 (denied _ ((neither (not (has_proc n.0 t.procs)) _ (member j n here)).0));
+      own = λ j n here. denied _ ((neither (not (has_proc n.0 t.procs)) _ (member j n here)).1);
+      once = distinct_where m.procs each.1;
+    }
+
+pub members_from : (t : Topology) (m : MasterDef) → HasGoodMembers t m → has_bad_members t m ≡ false
+members_from t m good =
+    none_of _ _ (affirmed _ good.number)
+    (none_of _ _ (not_none (length m.procs) good.some)
+    (none_of _ _
+    (absent_from (is_bad_member t m.node.0) m.procs (λ j n here.
+    none_of _ _
+    (affirmed _ (number_from (λ (p : ProcDef). p.node.0) t.procs n.0 (good.members j n here)))
+    (affirmed _ (good.own j n here))))
+    (once_where m.procs good.once)))
+
 pub master_keeps : (t : Topology) (k : ℕ) (m : MasterDef) → master_cause t k m ≡ None → MasterKeeps t k m
 master_keeps t k m e =
     let few = pass (nat_le 4 k) TooMany _ e in
     let new = pass (list_any (λ e. e.node.0 == m.node.0) (take k t.masters)) Repeated _ few.1 in
     let good = pass (has_bad_members t m) BadMember _ new.1 in
     let apart = pass (list_any (overlap m) (take k t.masters)) Overlap None good.1 in
-    let number = neither (not (is_master_number m.node.0)) _ good.0 in
-    let some = neither (length m.procs == 0) _ number.1 in
-    let each = neither (list_any (is_bad_member t m.node.0) m.procs) (has_twice m.procs) some.1 in
-    let member : EachEntry m.procs (λ _ n. is_bad_member t m.node.0 n ≡ false) = absent_at (is_bad_member t m.node.0) m.procs each.0 in
+    let members = members_where t m good.0 in
     record {
       within = below k 4 few.0;
       new = new.0;
-      number = denied _ number.0;
-      some = some_of (length m.procs) some.0;
-      members = λ j n here. number_at (λ (p : ProcDef). p.node.0) t.procs n.0 (denied _ ((neither (not (has_proc n.0 t.procs)) _ (member j n here)).0));
-      own = λ j n here. denied _ ((neither (not (has_proc n.0 t.procs)) _ (member j n here)).1);
-      once = distinct_where m.procs each.1;
+      number = members.number;
+      some = members.some;
+      members = members.members;
+      own = members.own;
+      once = members.once;
       apart = apart.0;
     }
 
@@ -140,14 +163,7 @@ master_kept t k m keeps =
     passed _ TooMany _ (not_at k 4 keeps.within)
     (passed _ Repeated _ keeps.new
     (passed _ BadMember _
-    (none_of _ _ (affirmed _ keeps.number)
-    (none_of _ _ (not_none (length m.procs) keeps.some)
-    (none_of _ _
-    (absent_from (is_bad_member t m.node.0) m.procs (λ j n here.
-    none_of _ _
-    (affirmed _ (number_from (λ (p : ProcDef). p.node.0) t.procs n.0 (keeps.members j n here)))
-    (affirmed _ (keeps.own j n here))))
-    (once_where m.procs keeps.once))))
+    (members_from t m (record { number = keeps.number; some = keeps.some; members = keeps.members; own = keeps.own; once = keeps.once }))
     (passed _ Overlap _ keeps.apart refl)))
 
 -- ---- all masters

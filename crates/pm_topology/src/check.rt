@@ -1,7 +1,9 @@
 //! Whether a topology keeps the rules.
 
-ghost use Rattle.std.specs.Prelude.{◌≡◌, ◌-◌, ◌≤◌, ◌&&◌, ◌==◌, ◌↔◌, None, IsOk, MatchResult, length, not};
+ghost use Rattle.std.specs.Prelude.{◌≡◌, ◌-◌, ◌≤◌, ◌&&◌, ◌==◌, ◌↔◌, None, Err, IsOk, MatchResult, length, not};
 ghost use Rattle.std.specs.List.{list_any, list_all};
+ghost use Rattle.pm_topology.specs.declared.faults.TopoFault.{TopoFault};
+ghost use Rattle.pm_topology.specs.Rules.{IsFirstBroken};
 ghost use Rattle.pm_topology.specs.WellFormed.{IsWellFormed};
 ghost use Rattle.pm_topology.specs.FirstFault.{covers, first_at, first_fault, has_bad_members, has_power, has_proc, has_slave, is_bad_member, is_bad_target, is_full, is_late, last_is_full, line_cause, master_cause, missing_master, power_cause, proc_cause, slave_cause};
 
@@ -37,6 +39,8 @@ impl Topology {
     /// comes where every entry is good.
     pub fn check(&self) -> Result<(), TopoFault>
         ensures well_formed { IsOk result ↔ IsWellFormed self.now }
+        // The entries before the fault's own break no rule, and its own breaks none before the one that is told.
+        ensures broken { (fault : TopoFault) → result ≡ Err fault → IsFirstBroken self.now fault }
         ensures first { MatchResult result (λ _. first_fault self.now ≡ None)
             (λ fault. first_fault self.now ≡ Some fault) }
     {
