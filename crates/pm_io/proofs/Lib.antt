@@ -1,4 +1,5 @@
 pub mod CallsLemmas
+pub mod GivenLemmas
 pub mod LinesLemmas
 pub mod LogSteps
 pub mod NumbersLemmas

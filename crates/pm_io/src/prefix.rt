@@ -2,6 +2,7 @@
 
 ghost use Rattle.std.specs.Prelude.{◌≡◌, ◌+◌, ◌<◌, ◌^◌, IfOk};
 ghost use Rattle.pm_io.specs.Calls.{named};
+ghost use Rattle.pm_io.specs.Given.{LeftGiven, NameGiven};
 ghost use Rattle.pm_io.specs.Prefix.{ReadsRest, ReadsPrefix, text_of};
 ghost use Rattle.pm_io.specs.Readings.{LeftRead, Meanwhile, NameRead};
 
@@ -76,6 +77,9 @@ pub fn gather<I: Inputs>(
     // is wanted, up to somewhere. Nothing else is begun or read.
     ensures calls { Meanwhile (I.state inputs.old) (I.state inputs.new)
         (NameRead result (named name.now limit)) }
+    // What was read is what these calls gave, of every source.
+    ensures given { IfOk result (λ prefix.
+        Meanwhile (I.state inputs.old) (I.state inputs.new) (NameGiven limit prefix)) }
 {
     match inputs.begin(name) {
         Ok(id) => read_rest(alloc, inputs, id, limit),
@@ -96,6 +100,8 @@ fn read_rest<I: Inputs>(
     ensures read { IfOk result
         (ReadsRest I.observable id limit (I.state inputs.old) (I.state inputs.new)) }
     ensures calls { Meanwhile (I.state inputs.old) (I.state inputs.new) (LeftRead result id (limit + 1)) }
+    ensures given { IfOk result (λ prefix.
+        Meanwhile (I.state inputs.old) (I.state inputs.new) (LeftGiven limit id prefix)) }
 {
     let most = limit as usize + 1;
     let mut bytes = Vec::new(alloc);
