@@ -6,14 +6,14 @@ ghost use Rattle.pm_base.specs.declared.names.Unit.{Unit};
 use crate::running::run_on;
 use pm_base::Exit;
 use pm_device::Device;
-use pm_fixtures::{
-    Asked, LABORATORY, LABORATORY_LOADED, LABORATORY_SETTLED, joined, model, replay_of,
-};
 use pm_io::MemSink;
 use pm_modules::Modules;
 use pm_tasks::Tasks;
 use std::process::Abort;
 use std::test::Fail;
+use test_fixtures::{
+    Asked, LABORATORY, LABORATORY_LOADED, LABORATORY_SETTLED, joined, model, replay_of,
+};
 
 /// The words of a run, the words of its object, its script, the text of its topology, what it writes, and how it ends.
 pub(crate) struct Row {

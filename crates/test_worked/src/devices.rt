@@ -2,9 +2,9 @@
 
 use crate::checks::{check_over, check_settled};
 use pm_base::Exit;
-use pm_fixtures::{LABORATORY, LABORATORY_LOADED, LABORATORY_SETTLED, joined, listed, replay_of};
 use std::process::Abort;
 use std::test::Fail;
+use test_fixtures::{LABORATORY, LABORATORY_LOADED, LABORATORY_SETTLED, joined, listed, replay_of};
 
 /// A node of the device is broken and mended: its script after the first line, `ipi 1 21`, and its text after that line's.
 const BROKEN: (&str, &str) = (

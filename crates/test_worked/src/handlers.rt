@@ -3,7 +3,6 @@
 use crate::checks::judge;
 use crate::running::run_on;
 use pm_base::{Exit, Message, NoMemory};
-use pm_fixtures::{LABORATORY, LABORATORY_LOADED, LABORATORY_SETTLED, joined, model, replay_of};
 use pm_io::MemSink;
 use pm_ipi::Response;
 use pm_modules::{Echo, Masked, Module, Modules, Responder};
@@ -11,6 +10,7 @@ use pm_tasks::{Counter, Handler, Tasks};
 use std::alloc::Global;
 use std::process::Abort;
 use std::test::Fail;
+use test_fixtures::{LABORATORY, LABORATORY_LOADED, LABORATORY_SETTLED, joined, model, replay_of};
 
 /// Says status 0 and the words 5, 0, 0, whatever it is asked.
 #[derive(Drop)]

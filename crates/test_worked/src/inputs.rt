@@ -2,11 +2,11 @@
 
 use crate::checks::{check, check_over};
 use pm_base::Exit;
-use pm_fixtures::{
-    Asked, LABORATORY, LABORATORY_LOADED, LABORATORY_SETTLED, joined, model, replay_of,
-};
 use std::process::Abort;
 use std::test::Fail;
+use test_fixtures::{
+    Asked, LABORATORY, LABORATORY_LOADED, LABORATORY_SETTLED, joined, model, replay_of,
+};
 
 #[test]
 fn a_script_fails_behind_its_first_line(rt: HostRuntime) -> Result<(), Fail> {

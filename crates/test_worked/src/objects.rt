@@ -2,8 +2,8 @@
 
 use crate::checks::{Row, check, check_rows};
 use pm_base::Exit;
-use pm_fixtures::{Asked, LABORATORY, OBJECT, bytes_of, replay_of};
 use std::test::Fail;
+use test_fixtures::{Asked, LABORATORY, OBJECT, bytes_of, replay_of};
 
 /// What is run, what it writes and how it ends.
 static ROWS: [Row; 11] = [

@@ -2,8 +2,8 @@
 
 use crate::checks::{Row, check_rows};
 use pm_base::Exit;
-use pm_fixtures::{LABORATORY, OBJECT, USUAL};
 use std::test::Fail;
+use test_fixtures::{LABORATORY, OBJECT, USUAL};
 
 /// The small object with a section that lets master 1 put another object in force.
 const CONFIGURED: &[u32] = &[

@@ -5,13 +5,13 @@ ghost use Rattle.pm_base.specs.declared.names.Unit.{Unit};
 
 use pm_base::Exit;
 use pm_device::Device;
-use pm_fixtures::{Asked, inputs_of, words_of};
 use pm_io::{MemInputs, MemSink};
 use pm_modules::{ModulesOf, Responder};
 use pm_tasks::{Handler, TasksOf};
 use pm_top::pm_main;
 use std::alloc::Global;
 use std::test::Fail;
+use test_fixtures::{Asked, inputs_of, words_of};
 
 /// A run over a sink in memory, and any device that stands at 0, with these modules and tasks.
 pub(crate) fn run_on<D: Device, H: Responder, T: Handler>(

@@ -3,14 +3,14 @@
 use crate::checks::{Row, check, check_rows};
 use crate::running::run_on;
 use pm_base::Exit;
-use pm_fixtures::{
-    Asked, LABORATORY, LABORATORY_LOADED, LABORATORY_SETTLED, SMALL, joined, model, replay_of,
-};
 use pm_io::MemSink;
 use pm_modules::Modules;
 use pm_tasks::Tasks;
 use std::process::Abort;
 use std::test::Fail;
+use test_fixtures::{
+    Asked, LABORATORY, LABORATORY_LOADED, LABORATORY_SETTLED, SMALL, joined, model, replay_of,
+};
 
 /// What is run, what it writes and how it ends.
 static ROWS: [Row; 3] = [

@@ -2,8 +2,8 @@
 
 use crate::checks::check;
 use pm_base::Exit;
-use pm_fixtures::{USUAL, joined, replay_of};
 use std::test::Fail;
+use test_fixtures::{USUAL, joined, replay_of};
 
 /// What is written at load.
 const LOADED: &str = "0 set 9 0 1

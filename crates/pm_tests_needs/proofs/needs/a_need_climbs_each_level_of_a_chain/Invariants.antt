@@ -1,4 +1,0 @@
-use Rattle.pm_tests_needs.proofs.needs.a_need_climbs_each_level_of_a_chain.Given as goal
-
-abbrev pub ghosts-wrong_step : goal.ghosts-wrong_step
-ghosts-wrong_step g a = record { name = a.blank.name; parts = a.blank.parts }

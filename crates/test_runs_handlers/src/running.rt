@@ -1,0 +1,51 @@
+//! A run with modules and tasks: the one place in which these tests make the call, of which nothing is said to them.
+
+ghost use Rattle.std.specs.Prelude.{◌≡◌};
+ghost use Rattle.pm_base.specs.declared.names.Unit.{Unit};
+
+use pm_base::Exit;
+use pm_device::Device;
+use pm_io::{MemInputs, MemSink};
+use pm_modules::{ModulesOf, Responder};
+use pm_tasks::{Handler, TasksOf};
+use pm_top::pm_main;
+use std::alloc::Global;
+use std::test::Fail;
+use test_fixtures::{Asked, inputs_of, model, words_of};
+
+/// A run over a sink in memory, and a device that doesn't fail.
+pub(crate) fn run_with_board<H: Responder, T: Handler>(
+    alloc: Global,
+    asked: &Asked,
+    modules: &ModulesOf<H>,
+    tasks: &mut TasksOf<T>,
+    out: &mut MemSink,
+) -> Result<Exit, Fail> {
+    let mut device = model(alloc)?;
+    let words = words_of(alloc, asked.words)?;
+    let mut inputs = inputs_of(alloc, asked)?;
+    Ok(run_words(
+        alloc,
+        &words,
+        &mut inputs,
+        out,
+        &mut *device,
+        modules,
+        tasks,
+    ))
+}
+
+/// The call itself.
+fn run_words<D: Device, H: Responder, T: Handler>(
+    alloc: Global,
+    words: &[String],
+    inputs: &mut MemInputs,
+    out: &mut MemSink,
+    dev: &mut D,
+    modules: &ModulesOf<H>,
+    tasks: &mut TasksOf<T>,
+) -> Exit
+    requires idle { D.values_observable → (unit : Unit) → (D.state dev.old).value unit ≡ 0 }
+{
+    pm_main(alloc, words, inputs, out, dev, modules, tasks)
+}

@@ -1,0 +1,37 @@
+//! A run: the one place in which these tests make the call, of which nothing is said to them.
+
+ghost use Rattle.std.specs.Prelude.{◌≡◌};
+ghost use Rattle.pm_base.specs.declared.names.Unit.{Unit};
+
+use pm_base::{Exit, NoMemory};
+use pm_device::Device;
+use pm_io::{MemInputs, MemSink};
+use pm_modules::Modules;
+use pm_tasks::Tasks;
+use pm_top::pm_main;
+use std::alloc::Global;
+use std::test::Fail;
+use test_fixtures::{Asked, inputs_of, model, words_of};
+
+/// A run over a sink in memory, and a device that doesn't fail, without modules and tasks.
+pub(crate) fn run(alloc: Global, asked: &Asked, out: &mut MemSink) -> Result<Exit, Fail> {
+    let mut device = model(alloc)?;
+    let words = words_of(alloc, asked.words)?;
+    let mut inputs = inputs_of(alloc, asked)?;
+    Ok(run_words(alloc, &words, &mut inputs, out, &mut *device)?)
+}
+
+/// The call itself.
+fn run_words<D: Device>(
+    alloc: Global,
+    words: &[String],
+    inputs: &mut MemInputs,
+    out: &mut MemSink,
+    dev: &mut D,
+) -> Result<Exit, NoMemory>
+    requires idle { D.values_observable → (unit : Unit) → (D.state dev.old).value unit ≡ 0 }
+{
+    let modules = Modules::new(alloc)?;
+    let mut tasks = Tasks::new(alloc, 0)?;
+    Ok(pm_main(alloc, words, inputs, out, dev, &modules, &mut tasks))
+}
