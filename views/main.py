@@ -29,6 +29,7 @@ VIEWS = {
     "policy": "policy",
     "diff": "diff",
     "names": "names",
+    "import": "import_log",
 }
 
 
