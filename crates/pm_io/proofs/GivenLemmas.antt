@@ -101,10 +101,13 @@ left_given limit id bytes told stop calls gave is =
     ap (λ (s : StopReason). record { bytes = bytes; stop = s }) is
     ∙ sym (ap (λ (got : List ℕ). P got told) gave.bytes) ∙ sym (ap (λ (ended : Bool). P (given id calls) ended) gave.ended)
 
-pub ends_given : (limit id : ℕ) (bytes : List ℕ) (before after : Moment) → Meanwhile before after (Gave id bytes true) → Meanwhile before after (LeftGiven limit id (record { bytes = bytes; stop = End }))
-ends_given limit id bytes before after reads =
+pub ends_given : (limit id : ℕ) (bytes : List ℕ) (before after : Moment) → length bytes ≤ limit → Meanwhile before after (Gave id bytes true) → Meanwhile before after (LeftGiven limit id (record { bytes = bytes; stop = End }))
+ends_given limit id bytes before after within reads =
     meanwhile_map before after (Gave id bytes true) (LeftGiven limit id (record { bytes = bytes; stop = End }))
-    (λ calls gave. left_given limit id bytes true End calls gave refl) reads
+    (λ calls gave. left_given limit id bytes true End calls gave is) reads
+  where
+    is : End ≡ stop_by true limit bytes
+    is = grind (arith, nat_tests)
 
 pub over_given : (limit id : ℕ) (bytes : List ℕ) (before after : Moment) → limit < length bytes → Meanwhile before after (Gave id bytes false) → Meanwhile before after (LeftGiven limit id (record { bytes = bytes; stop = Limit }))
 over_given limit id bytes before after past reads =

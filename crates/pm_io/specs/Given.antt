@@ -20,11 +20,10 @@ is_ended id (Read other None ∷ calls) = is_ended id calls
 is_ended id (Read other (Some []) ∷ calls) = (other == id) || is_ended id calls
 is_ended id (Read other (Some (byte ∷ bytes)) ∷ calls) = is_ended id calls
 
--- where what was given under a number ends, by whether the end was told and by its bytes: at the end, at a byte past the
--- limit, or else it breaks off
+-- where what was given under a number ends, by whether the end was told and by its bytes: at a byte past the limit, at the
+-- end, or else it breaks off
 abbrev pub stop_by : Bool → ℕ → List ℕ → StopReason
-stop_by true limit bytes = End
-stop_by false limit bytes = if nat_lt limit (length bytes) then Limit else Failure
+stop_by told limit bytes = if nat_lt limit (length bytes) then Limit else (if told then End else Failure)
 
 abbrev pub stop_after : ℕ → ℕ → List Call → StopReason
 stop_after limit id calls = stop_by (is_ended id calls) limit (given id calls)

@@ -54,6 +54,7 @@ returns-in-Ok-eq0-clause-given g c =
     let old = g.I.Inputs.state c.args.inputs.now in
     let new = g.I.Inputs.state c.read.new.self in
     ends_given c.args.limit c.args.id c.loop-window.bytes.items old new
+    (omega (arith, c.loop-window-test.true, c.len.ensures, c.loop-window.invariant.most))
     (gave_all c.args.id c.loop-window.bytes.items old (g.I.Inputs.state c.loop-window.inputs) new c.loop-window.invariant.gave (search rules))
 
 pub returns-in-Err-clause-calls : goal.returns-in-Err-clause-calls
