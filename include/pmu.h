@@ -34,8 +34,8 @@
 extern "C" {
 #endif
 
-/* What a call answers. Those up to 15 are the exits of the program. But for PMU_DONE nothing was done, where no other
- * word is said. */
+/* What a call answers. Those up to 15 are the exits of the program. Unless stated otherwise, any answer but PMU_DONE
+ * means that nothing was done. */
 enum {
     PMU_DONE = 0,          /* all was done */
     PMU_BAD_OBJECT = 2,    /* the bytes are no configuration object */

@@ -74,8 +74,8 @@ pub fn lines_stay_apart()
     unit_maps::<KeptValue>();
 }
 
-/// The same of a device that was driven through a run under its own answers and reported no failure: the lines of that run,
-/// and of its steps alone, that are about a unit beyond the reach of a master are those of the run without the messages of
+/// Over a device that was driven through a run under its own answers and reported no failure, the lines about a unit
+/// beyond the reach of a master, of the whole run and of its steps alone, are those of the run without the messages of
 /// the master.
 pub fn driven_lines_stay_apart<D: Device>()
     ensures steps { (c : Setup) (events : List Event) (answers : List (List Bool)) (cut : Option ℕ) (old new : D)

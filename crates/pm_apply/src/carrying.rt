@@ -49,7 +49,7 @@ impl Carrying {
         Carrying::start(book, out.pulse)
     }
 
-    /// The same whatever the record marks: each unit of the chip is marked.
+    /// Begins to give out the commands of a step whatever the record marks: each unit of the chip is marked.
     pub fn begin_all(kept: &mut Kept, book: &Book, out: &Outbox) -> Carrying
         requires record { IsRecordOf book.now.fixed.topology kept.old }
         ensures left { turns_left book.now.fixed.topology out.now.pulse result
@@ -77,7 +77,7 @@ impl Carrying {
         told_answer(kept, book, out)
     }
 
-    /// The same for a record of the book's units, whose values are read at their places.
+    /// Ends a step over a record of the book's units, whose values are read at their places.
     pub(crate) fn end_at_places(kept: &mut Kept, book: &Book, out: &Outbox) -> Answer
         requires stands { StandsElsewhere (λ u. value u book.now) kept.old }
         requires units { units_in kept.old ≡ units_of book.now.fixed.topology }

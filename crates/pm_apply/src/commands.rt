@@ -77,8 +77,9 @@ pub fn carry<D: Device>(dev: &mut D, kept: &mut Kept, book: &Book, out: &mut Out
     carry_on(dev, kept, book, out);
 }
 
-/// The same whatever the record marks: each unit of the chip is visited. This is for the first step, and for a
-/// record of which the caller doesn't know whether its marks are those of the last step.
+/// Issues the commands that make the device follow the book, as `carry` does, whatever the record marks: each unit of
+/// the chip is visited. This is for the first step, and for a record of which the caller doesn't know whether its marks
+/// are those of the last step.
 pub fn carry_all<D: Device>(dev: &mut D, kept: &mut Kept, book: &Book, out: &mut Outbox)
     requires room { HasRoomFor book.now out.old }
     requires fresh { out.old.done.items ≡ [] }

@@ -246,7 +246,7 @@ fn issue<D: Device>(dev: &mut D, kept: &mut Kept, out: &mut Outbox, command: Com
     out.done.push(Done { command, from, ok });
 }
 
-/// The same for a command on the unit at a place.
+/// Issues a command on the unit at a place of the record, and takes down the value before it and the answer.
 #[inline(always)]
 fn issue_at<D: Device>(
     dev: &mut D,

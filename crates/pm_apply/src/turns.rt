@@ -80,7 +80,7 @@ pub(crate) fn next_visited(from: usize, book: &Book, kept: &Kept) -> usize
     next_power(unit, turns, book, kept)
 }
 
-/// The same up to an end. The mark of each turn's unit is looked at.
+/// The first place before an end, from this one on, whose turn is taken. The mark of each turn's unit is looked at.
 fn next_power(from: usize, end: usize, book: &Book, kept: &Kept) -> usize
     requires within { end ≤ length (unit_turns book.now.fixed.topology) }
     requires units { units_in kept.now ≡ units_of book.now.fixed.topology }
@@ -98,7 +98,7 @@ fn next_power(from: usize, end: usize, book: &Book, kept: &Kept) -> usize
     end
 }
 
-/// The same among the units, by the list of those that are marked.
+/// The first place of a unit's own turn, from this one on, that is taken, by the list of the units that are marked.
 fn next_unit(from: usize, book: &Book, kept: &Kept) -> usize
     requires { units_in kept.now ≡ units_of book.now.fixed.topology }
     ensures from { from ≤ result }
@@ -252,7 +252,7 @@ fn apply(unit: Unit, book: &Book, kept: &Kept) -> Option<Command>
     )
 }
 
-/// The same for the unit at a place of the record, which is this one, by its entry and its supply there.
+/// The command of the turn of the unit at a place of the record, by its entry and its supply there.
 pub(crate) fn apply_at(place: usize, unit: Unit, book: &Book, kept: &Kept) -> Option<Command>
     requires units { units_in kept.now ≡ units_of book.now.fixed.topology }
     requires supplies { HasSupplies book.now.fixed.topology kept.now }
@@ -305,7 +305,8 @@ fn takes(unit: Unit, value: u32, t: &Topology, kept: &Kept) -> bool
     }
 }
 
-/// The same by the kind of the unit: a reset line is none of the nodes.
+/// Whether a unit of this kind is no power node, the record has another value for it, and the value doesn't need power
+/// or the power node above isn't down in the record. A reset line is of none of the nodes' kinds.
 fn takes_by(kind: Kind, unit: Unit, value: u32, t: &Topology, kept: &Kept) -> bool
     ensures { result ≡ (not (is_power_kind kind) && (not (kept_value kept.now unit == value)
         && (not (kind_needs_power t.now kind value) || is_fed t.now kept.now (parent_at t.now kind)))) }

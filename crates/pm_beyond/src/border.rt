@@ -164,7 +164,7 @@ fn slave_beyond(objects: &[Object], t: &Topology, routes: &[Route], s: usize) ->
     }
 }
 
-/// The same of a power node.
+/// Whether the power node at a place isn't brought in, or there is none.
 fn power_beyond(objects: &[Object], t: &Topology, routes: &[Route], w: usize) -> bool
     ensures { (from : Option ℕ) (nodes : ℕ → Bool) → ArePaths objects.now t.now from routes.now
         → result ≡ (unit_border objects.now t.now from nodes).power w }

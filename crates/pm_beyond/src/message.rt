@@ -15,7 +15,8 @@ use pm_object::Object;
 use pm_topology::Topology;
 use std::alloc::Global;
 
-/// The same by the loaded object, which is the first of those that may be in force.
+/// Whether a message of a sender is beyond the reach of a master, by the loaded object, which is the first of those
+/// that may be in force.
 fn is_beyond_by(
     alloc: Global,
     loaded: &Object,

@@ -17,7 +17,8 @@ pub fn answers_have_causes()
     ensures { (event : Event) (book : State) → HasCauses event book (answer_to event book) }
 {}
 
-/// So has each answer of a list of core events, of the lines of a run from where it stands, and of the run whole, the load too.
+/// Each answer of a run has its cause: of a list of core events, of the lines from any point on, and of a whole run, including
+/// its load.
 pub fn runs_have_causes()
     ensures cores { (events : List Event) (book : State) → HaveCauses (cores_of events book) }
     ensures lines { (c : Setup) (events : List Event) (stand : Stand)

@@ -29,8 +29,8 @@ use pm_laws::{reach_is_closed, reach_keeps_apart, rows_follow_alike, steps_keep_
 use pm_run::books_of_a_run;
 
 /// The calls of a master on a clock beyond its reach are refused, and no step of its own drops an enable of such a clock. So
-/// core steps that are beside one another leave clocks beyond the same, from books and clock trees that agree on, and a call
-/// of a master beyond on such a clock is answered the same; and the clocks of a run beyond the reach of a master are, line by
+/// paired core steps keep clocks beyond the reach equal, if books and clock trees agreed there, and a call of a master beyond
+/// on such a clock is answered the same; and the clocks of a run beyond the reach of a master are, line by
 /// line, those of the run without its messages.
 pub fn clocks_keep_apart()
     ensures cores { (m : NodeId) (es fs : List Event) (a b : State) (s t : Tree) → AreObjects a.fixed

@@ -152,8 +152,7 @@ impl Book {
         self.stays_sound();
     }
 
-    /// The same of an event of which something may come, with an empty outbox, where it is told whether the event
-    /// changes no value.
+    /// Steps an event that may have an effect, with an empty outbox. `still`: no value can change.
     fn proceed(&mut self, still: bool, event: &Event, out: &mut Outbox)
         requires still { still ≡ leaves_values event.now self.old }
         requires room { HasRoomFor self.old out.old }

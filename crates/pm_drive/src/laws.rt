@@ -61,8 +61,7 @@ pub fn scripts_are_lowered()
         → HaveSameSteps c (driven c answers events) (driven c answers (lowered_script c.topology events)) }
 {}
 
-/// Whatever modules and tasks driven lines find, what is told of them changes, and nothing else: no book, no command and no
-/// kept value.
+/// Modules and tasks change only the text of a run: no book, no command and no kept value.
 pub fn boards_leave_runs()
     ensures { (board : Standing) (xs : List Driven) → LeavesRun board xs }
 {}

@@ -32,7 +32,7 @@ pub fn clocks_on<O: Sink>(
     told_on(written, number, engine, out)
 }
 
-/// The same of any line.
+/// Writes the lines of the clocks that began or ceased to run, of any script line.
 #[inline(never)]
 fn told_on<O: Sink>(
     written: Result<(), Failed>,

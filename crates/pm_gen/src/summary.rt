@@ -119,7 +119,7 @@ fn behind_word(text: &[u8]) -> Option<&[u8]>
     }
 }
 
-/// The place of the first byte that isn't behind the number sign.
+/// The place of the first byte that is at most `#`, which no byte of a word is.
 fn word_end(text: &[u8]) -> Option<usize>
     ensures { result ≡ position (λ byte. nat_le byte 35) text.now }
 {

@@ -12,7 +12,8 @@ pub fn grants_are_permissions()
     kinds_are_exact();
 }
 
-/// The same for what at least one of several objects permits, in each of which a master has the same place.
+/// What at least one of several objects permits, in each of which a master has the same place, is by places what it is
+/// by numbers.
 pub fn some_grants_are_permissions()
     ensures { SeveralGrantLaws }
 {

@@ -16,7 +16,7 @@ use pm_topology::{Topology, UnitMap};
 use std::alloc::Global;
 use std::marker::Model;
 
-/// A runner on the heap, so that who has one holds no more than where it is. Contracts see where the run stands: its book
+/// A runner on the heap, since the struct is large. Contracts see where the run stands: its book
 /// and its boxes.
 #[derive(Drop)]
 pub struct BoxedRun {

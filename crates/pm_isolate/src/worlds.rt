@@ -252,7 +252,8 @@ fn is_own(event: &Event) -> bool
     !matches!(event, Event::Post { .. } | Event::Serve | Event::Smc { .. })
 }
 
-/// The same of any line, by the core events that it is split into. (Most lines are their own event, and need no such loop.)
+/// Steps both books of any line by the core events that it is split into. (Most lines are their own event, and need no
+/// such loop.)
 #[inline(never)]
 fn step_more(
     runner: &mut BoxedRun,

@@ -68,9 +68,8 @@ pub fn books_agree()
     units_stand_in_order();
 }
 
-/// The two facts of each change: seen and made in both books it leaves them in agreement, where some master
-/// is beyond, and unseen and made in one alone it does so too. So do two lists of changes, one in each book,
-/// with the same seen part; and a list of which nothing is seen, in one book alone.
+/// A visible change made in both books, if some master is beyond, or an invisible one made in either, keeps two books in
+/// agreement. So do two lists of changes, one in each book, with the same visible part; and an invisible list in one book.
 pub fn changes_agree()
     ensures seen { (border : Border) (prim : Prim) (a b : State) → border.some ≡ true → seen border prim ≡ true
         → Agree border a b → Agree border (changed (prim ∷ []) a) (changed (prim ∷ []) b) }
@@ -103,7 +102,7 @@ pub fn talks_agree()
 {}
 
 /// A master beyond has the same mode in two books that agree, since it comes from its own processors. So
-/// the same part is seen of the shifts by which the rows follow, and none of them is where the rows know
+/// the same part is seen of the shifts by which the rows follow, and there is no shift if the rows know
 /// the modes already; and two stages with the same seen part leave the books in agreement, where some master
 /// is beyond.
 pub fn rows_follow_alike()
@@ -192,9 +191,9 @@ pub fn steps_agree()
     laws_below();
 }
 
-/// The same is asked of masters beyond in two books that agree, and, where they are sound, the same requests
-/// to masters beyond end, with the same status, and the same part is seen of what is told. In a hidden event
-/// no master beyond is asked, no request to one ends, and nothing is seen of what is told.
+/// Masters beyond are asked the same in two books that agree, and, if these are sound, the same requests to masters
+/// beyond end, with the same status, and the same part is seen of what is told. In a hidden event no master beyond is
+/// asked, no request to one ends, and nothing is seen of what is told.
 pub fn requests_agree()
     ensures asked { (border : Border) (event : Event) (a b : State)
         → IsClosed a.fixed border → Agree border a b
@@ -218,8 +217,8 @@ pub fn requests_agree()
     laws_below();
 }
 
-/// The same processors beyond start in two books that agree, at the same addresses, whether an event does the same in
-/// both or is hidden; and a hidden event starts none of them that a step in which nothing happens doesn't.
+/// In two books that agree, the processors that start beyond are the same, at the same addresses, whether an event does
+/// the same in both or is hidden; and a hidden event starts none of them that a step in which nothing happens doesn't.
 pub fn starts_agree()
     ensures both { (border : Border) (event : Event) (a b : State)
         → IsClosed a.fixed border → IsSound a → IsSound b → Agree border a b
@@ -234,7 +233,7 @@ pub fn starts_agree()
     laws_below();
 }
 
-/// The same reset line beyond is pulsed in two books that agree, and a hidden event pulses none.
+/// In two books that agree, the reset line that is pulsed beyond is the same, and a hidden event pulses none.
 pub fn pulses_agree()
     ensures both { (border : Border) (event : Event) (a b : State)
         → IsClosed a.fixed border → Agree border a b

@@ -66,7 +66,7 @@ pub fn step_both(
     // They have the objects and the chip as before, and agree beyond the reach.
     ensures fixed { a.new.fixed ≡ a.old.fixed }
     ensures agree { Agree (border_in a.old m) a.new b.new }
-    // The same beyond the reach.
+    // Beyond the reach values, modes and what is told are alike.
     ensures values { IsValueAlike a.old.fixed.object a.old.fixed.topology (border_in a.old m) a.new b.new }
     ensures modes { IsModeAlike a.old.fixed.object a.old.fixed.topology (border_in a.old m) a.new b.new }
     ensures told { SameTold a.old.fixed.object a.old.fixed.topology (border_in a.old m)
@@ -115,7 +115,7 @@ pub fn step_left(
     // They have the objects and the chip as before, and agree beyond the reach.
     ensures fixed { a.new.fixed ≡ a.old.fixed }
     ensures agree { Agree (border_in a.old m) a.new b.new }
-    // The same beyond the reach, and nothing is told there.
+    // Beyond the reach values and modes are alike, and nothing is told there.
     ensures values { IsValueAlike a.old.fixed.object a.old.fixed.topology (border_in a.old m) a.new b.new }
     ensures modes { IsModeAlike a.old.fixed.object a.old.fixed.topology (border_in a.old m) a.new b.new }
     ensures told_a { TellsNothing a.old.fixed.object a.old.fixed.topology (border_in a.old m)

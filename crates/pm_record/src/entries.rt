@@ -22,7 +22,7 @@ pub(crate) fn idle() -> KeptValue
     }
 }
 
-/// What is kept of a unit, and of one that isn't there as of an idle one.
+/// The record's entry of a unit; an idle one if the unit isn't in the table.
 pub(crate) fn kept_of(values: &UnitMap<KeptValue>, unit: Unit) -> KeptValue
     ensures kept { result ≡ kept_of values.now unit }
     ensures rising { rises (units_in values.now) ≡ true }

@@ -298,7 +298,7 @@ impl Kept {
         keep(&mut self.values, &mut self.uses, command)
     }
 
-    /// The same for a command on the unit at a place.
+    /// Takes down what a device answered to a command on the unit at a place. The value before it comes out.
     #[inline(always)]
     pub fn log_at(&mut self, place: usize, command: Command, ok: bool) -> u32
         requires { slice_get (units_in self.old) place ≡ Some command.unit }

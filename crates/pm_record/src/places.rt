@@ -69,7 +69,7 @@ impl Places {
         self.search_from(from)
     }
 
-    /// The same, by a search in the order of the places.
+    /// The first place from this one on, and the end if there is none, by a search in the order of the places.
     fn search_from(&self, from: usize) -> usize
         requires { from ≤ self.now.room }
         ensures from { from ≤ result }

@@ -144,7 +144,7 @@ fn is_alone(event: &Event) -> bool
     )
 }
 
-/// The same of a line that is nothing but its own core event, as most lines are.
+/// Carries out a line that is nothing but its own core event, as most lines are, and writes its text.
 #[inline(always)]
 fn run_alone<O: Sink, D: Device, H: Responder, T: Handler>(
     number: u32,

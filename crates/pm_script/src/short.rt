@@ -215,8 +215,7 @@ fn with_digit(value: u32, byte: u8) -> Option<u32>
     }
 }
 
-/// Leaves the event in which nothing happens, if a text begins with a comment up to a line feed. The answer is the place
-/// of that line feed.
+/// Leaves `Pass` if a text begins with a comment up to a line feed, and answers the place of that line feed.
 fn read_comment(text: &[u8], event: &mut Event) -> Option<usize>
     ensures { IfSome result (λ feed. MeansPlain text.now feed event.new) }
 {

@@ -95,7 +95,7 @@ pub fn split_event<'e>(
     }
 }
 
-/// The same of a line that isn't its own event alone.
+/// Splits the event of a line that isn't its own event alone.
 #[inline(never)]
 fn split_more<'e>(object: &Object, t: &Topology, boxes: &mut Mail, event: &'e Event) -> Split<'e>
     requires { length boxes.old ≡ length object.now.masters }
@@ -159,7 +159,8 @@ impl<'e> CoreEvents<'e> {
         }
     }
 
-    /// The same of a line that isn't its own event. (Most lines are, and theirs is taken where it is asked for.)
+    /// Takes the next core event off, of a line that isn't its own event. (Most lines are, and theirs is taken by the
+    /// caller.)
     #[inline(never)]
     fn make_next(
         &mut self,
@@ -191,7 +192,7 @@ impl<'e> CoreEvents<'e> {
         }
     }
 
-    /// Leaves the event in which nothing happens, and is over. (An event is large, and a function clears each one that it
+    /// Yields `Pass` and ends. (An event is large, and a function clears each one that it
     /// holds when it is entered. So what makes events is kept apart, and a line that is its own event pays nothing for it.)
     #[inline(never)]
     fn pass(&mut self, made: &mut Event) -> Option<Source<'e>>
@@ -212,7 +213,7 @@ impl<'e> CoreEvents<'e> {
         Some(Source::Made)
     }
 
-    /// The same of a power call.
+    /// Leaves the next event of a power call, if one is left.
     #[inline(never)]
     fn lower(&mut self, t: &Topology, smc: Smc, k: usize, made: &mut Event) -> Option<Source<'e>>
         ensures events { MatchOption result
@@ -226,8 +227,8 @@ impl<'e> CoreEvents<'e> {
         Some(Source::Made)
     }
 
-    /// The same of a line that serves. If no message is left, all boxes are emptied, and a line that served none has a
-    /// Pass.
+    /// Leaves the message of the next box, of a line that serves. If no message is left, all boxes are emptied, and a
+    /// line that served none has a Pass.
     #[inline(never)]
     fn serve(
         &mut self,

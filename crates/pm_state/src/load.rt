@@ -31,8 +31,8 @@ use std::alloc::Global;
 
 impl Tables {
     /// A row for each permitted pair, with what the object preallocates for it. The first processor of
-    /// the first master is active, and all others are off. All reset lines are released. Beside the loaded object stands
-    /// what is attached; no later call takes memory, one that puts another object in force neither.
+    /// the first master is active, and all others are off. All reset lines are released. Objects that
+    /// are attached are kept beside the loaded one. No later call allocates, not even SET_CONFIGURATION.
     pub fn load(
         alloc: Global,
         object: Object,

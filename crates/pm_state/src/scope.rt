@@ -21,7 +21,7 @@ pub enum Scope {
     All,
 }
 
-/// The same by the kind of the forced node.
+/// What a force takes down, by the kind of the forced node.
 #[derive(Clone, Copy)]
 enum Taken {
     Under(Kind),

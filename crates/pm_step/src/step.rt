@@ -89,7 +89,8 @@ pub fn begin(tables: &Tables, telling: &mut Telling)
     telling.along.start(tables);
 }
 
-/// The same behind an event. Where that moved no processor, what is logged is as it was before it.
+/// Begins what is logged of the next step behind an event. If that moved no processor, what is logged is as it was
+/// before it.
 pub fn begin_after(tables: &Tables, event: &Event, served: &Option<Served>, telling: &mut Telling)
     requires places { HasPlaces tables.now.fixed.topology (length tables.now.fixed.object.masters) telling.old }
     requires fresh { may_move event.now served.now ≡ false → IsFresh tables.now telling.old }
@@ -274,8 +275,8 @@ pub fn leaves_values(tables: &Tables, event: &Event) -> bool
     }
 }
 
-/// Whether nothing comes of an event that is no message, as is told by the book before it, where it is told whether it
-/// changes no value. Of those that change none only an interrupt at a processor that is suspending changes anything.
+/// Whether an event that is no message has no effect, by the book before it, given whether it can change a value
+/// (`still`: it can't). Of those that change none only an interrupt at a processor that is suspending changes anything.
 pub fn is_idle(still: bool, tables: &Tables, event: &Event) -> bool
     requires { still ≡ leaves_values event.now tables.now }
     ensures { result ≡ is_idle event.now tables.now }
@@ -328,7 +329,7 @@ fn touched(tables: &Tables, event: &Event, served: &Option<Served>) -> Touched
     }
 }
 
-/// The same of a call that may have stages.
+/// What of a book a call may touch that may have stages.
 fn touched_in(tables: &Tables, call: &Call) -> Touched
     ensures { result ≡ touched_in call.now tables.now }
 {

@@ -42,8 +42,8 @@ pub fn tell(
     tell_late(tables, telling.ended(), late);
 }
 
-/// The same of a step in which no mode changes, no message has the masters told anything and no time passes: no request
-/// ends, and they are told of the events of nodes alone.
+/// Tells the masters of a step in which no mode changes, no message has them told anything and no time passes: no
+/// request ends, and they are told of the events of nodes alone.
 pub fn tell_notices(
     tables: &mut Tables,
     caches: &Caches,

@@ -227,8 +227,8 @@ fn start_words(text: &mut [u8], at: usize, start: &Start) -> usize
     put_name(text, at, b" run")
 }
 
-/// Puts what stands in the line of a command behind the number of its step, with the line feed, before what stands from
-/// `at` on. Answers where it begins.
+/// Writes the rest of a command's line, behind the number of its step, so that it ends before `text[at]` with its line feed.
+/// Answers where it begins.
 #[inline(always)]
 pub(crate) fn rest_of_command(text: &mut [u8], at: usize, done: &Done) -> usize
     requires room { LINE ≤ at }

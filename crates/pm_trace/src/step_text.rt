@@ -103,7 +103,7 @@ impl Tens {
         }
     }
 
-    /// The same where it isn't among them yet.
+    /// Moves to the ten numbers among which a number is, if it isn't among those that are kept yet.
     #[inline(never)]
     fn find(&mut self, n: u32) -> bool
         ensures from { IsTrue result → self.new ≤ n }
@@ -233,7 +233,7 @@ fn put_last(text: &mut [u8; 1024], number: &Number, answer: &Answer) -> usize
     }
 }
 
-/// The same of any answer: one that isn't a reply is rare.
+/// Puts the line of any answer at the end of a text, if one is written: an answer that isn't a reply is rare.
 #[inline(never)]
 fn put_rare(text: &mut [u8; 1024], n: u32, answer: &Answer) -> usize
     ensures room { ROOM ≤ result + LINE }

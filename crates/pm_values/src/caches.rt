@@ -125,7 +125,7 @@ impl Caches {
         self.log_all(tables, along, moved, starts, notices);
     }
 
-    /// The same once the states are chosen and the power nodes are found.
+    /// Logs what moved, started and happened, once the states are chosen and the power nodes are found.
     pub(crate) fn log_all(
         &mut self,
         tables: &Tables,
@@ -144,7 +144,8 @@ impl Caches {
         self.log_changes(tables, along, moved, starts, notices);
     }
 
-    /// The same where units rest: those to which nothing happened and which don't start.
+    /// Logs what moved, started and happened among the units that don't rest: those to which something happened or
+    /// which start.
     fn log_changes(
         &mut self,
         tables: &Tables,
@@ -164,7 +165,7 @@ impl Caches {
         log_uses(tables, &mut self.used);
     }
 
-    /// The same but for whether slaves are used, which stays as it is kept.
+    /// Logs what moved, started and happened, but for whether slaves are used, which stays as it is kept.
     pub(crate) fn log_values(
         &mut self,
         tables: &Tables,

@@ -24,8 +24,8 @@ use pm_state::Tables;
 use pm_topology::{Kind, SlaveDef, kinds_are_exact, units_stand_in_order};
 
 impl Caches {
-    /// Brings all that is kept up to date as `update` does, after a step that may have touched so much, before which the
-    /// masters had these modes: what it didn't touch isn't found again.
+    /// Brings all that is kept up to date, as `update` does, but recomputes only what the step may have touched. `modes` are
+    /// those of the masters before it.
     pub fn follow(
         &mut self,
         touched: Touched,
@@ -51,8 +51,9 @@ impl Caches {
         }
     }
 
-    /// The same after a step that changed modes of processors, and rows of the masters whose mode turned: reset lines rest,
-    /// the slaves on which none of these masters has a row, and the other units that stay as they were.
+    /// Brings all that is kept up to date after a step that changed modes of processors, and rows of the masters whose
+    /// mode turned: reset lines rest, the slaves on which none of these masters has a row, and the other units that
+    /// stay as they were.
     fn follow_modes(
         &mut self,
         tables: &Tables,
@@ -114,7 +115,8 @@ impl Caches {
             .wake_changed(along, tables.procs(), self.power.ups(), &self.values);
     }
 
-    /// The same after a step that changed the rows on one slave alone: where that rests, all values do.
+    /// Brings all that is kept up to date after a step that changed the rows on one slave alone: if that rests, all
+    /// values do.
     fn follow_rows(
         &mut self,
         s: usize,
@@ -140,8 +142,8 @@ impl Caches {
         }
     }
 
-    /// The same where the slave doesn't rest, and this state is chosen for it: it alone changes unless the power node above
-    /// it goes up or down.
+    /// Brings all that is kept up to date after a step that changed the rows on one slave alone, for which this state
+    /// is chosen: it alone changes unless the power node above it goes up or down.
     fn follow_slave(
         &mut self,
         s: usize,

@@ -72,7 +72,7 @@ impl Marks {
         self.words.fill(0);
     }
 
-    /// The place where the walk over the units goes on behind this one: all units between them rest.
+    /// The next unit after this one that doesn't rest, or the number of units.
     pub(crate) fn past(&self, k: usize) -> usize
         requires { k < length self.now }
         ensures more { k < result }

@@ -48,7 +48,7 @@ pub(crate) fn log_units(
     }
 }
 
-/// The same of the unit at a place, of this kind.
+/// Writes the value of the unit at a place, of this kind, and logs what moved, started and happened there.
 fn log_kind(
     k: usize,
     kind: UnitKind,
@@ -106,7 +106,7 @@ fn log_unit(
     log_change(k, entry, value, freed, values, moved, notices);
 }
 
-/// The same of a unit to which something happened, by its entry.
+/// Writes the value of a unit to which something happened, by its entry, and logs that it moved.
 fn log_change(
     k: usize,
     entry: Option<(Unit, u32)>,

@@ -56,7 +56,7 @@ pub(crate) fn choose(tables: &Tables, states: &mut [u32], needs: &mut [bool])
     }
 }
 
-/// The same of the slave at a place, for which this state is chosen: whether it needs its power node then.
+/// Writes the chosen state of the slave at a place, and answers whether it needs its power node in that state.
 pub(crate) fn choose_one(
     tables: &Tables,
     s: usize,

@@ -122,7 +122,7 @@ fn log_turned_uses(step: &ModeStep, used: &mut [bool])
     }
 }
 
-/// The same of the slave at a place, if it is asked for.
+/// Writes whether some master uses the slave at a place, if it is asked for.
 fn log_use_if(tables: &Tables, asked: bool, s: usize, used: &mut [bool])
     requires { length used.old ≡ length tables.now.fixed.topology.slaves }
     ensures { used.new ≡ renewed_at asked (use_of tables.now.now.core) s
