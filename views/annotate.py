@@ -8,7 +8,10 @@ import os
 import sys
 import tempfile
 
+import chip as chips
 import names
+import objects
+import permits
 import steps
 import to_numbers
 from program import BadUse, read_file, run, run_text, write_file
@@ -35,48 +38,48 @@ def capabilities(word):
 # The text of an object.
 
 
-def meaning_of_master(masters, node, _mask, timeout, suspend, wake):
+def meaning_of_master(_chip, masters, node, _mask, timeout, suspend, wake):
     said = [names.node_name(node) + ":", f"may suspend {masters_in(suspend, masters)}"]
     said += [f"and wake {masters_in(wake, masters)}"] + ["(no timeout)"] * (timeout == 0xFFFFFFFF)
     return " ".join(said)
 
 
-def meaning_of_slave(masters, node, flags, mask):
-    return f"{named_node(node)}: {masters_in(mask, masters)}" + "; shareable" * (flags & 1)
+def meaning_of_slave(chip, masters, node, flags, mask):
+    return f"{named_node(chip, node)}: {masters_in(mask, masters)}" + "; shareable" * (flags & 1)
 
 
-def meaning_of_prefer(_masters, node, flags, current, preset):
+def meaning_of_prefer(chip, _masters, node, flags, current, preset):
     use = "in use with " if flags & 2 else "not in use, "
-    return f"{named_node(node)}: {use}{capabilities(current)}; preset {capabilities(preset)}"
+    return f"{named_node(chip, node)}: {use}{capabilities(current)}; preset {capabilities(preset)}"
 
 
-def named_node(node):
-    return names.node_name(node) + ", which the table lacks" * (not names.is_in_table(node))
+def named_node(chip, node):
+    return names.node_name(node) + ", which the table lacks" * (node not in chip.nodes)
 
 
-def named_line(line):
-    return names.line_name(line) + ", which the table lacks" * (not names.is_line(line))
+def named_line(chip, line):
+    return names.line_name(line) + ", which the table lacks" * (line not in chip.lines)
 
 
 MEANING_OF_RECORD = {
     "master": meaning_of_master,
     "slave": meaning_of_slave,
-    "group": lambda masters, mask: masters_in(mask, masters),
+    "group": lambda _, masters, mask: masters_in(mask, masters),
     "prefer": meaning_of_prefer,
-    "power": lambda masters, node, mask: f"{named_node(node)}: {masters_in(mask, masters)}",
-    "reset": lambda masters, line, mask: f"{named_line(line)}: {masters_in(mask, masters)}",
-    "shutdown": lambda masters, subtype, mask: f"{names.word_name('shutdown subtype', subtype)}: {masters_in(mask, masters)}",
-    "config": lambda masters, base, overlay: f"base {masters_in(base, masters)}; overlay {masters_in(overlay, masters)}",
+    "power": lambda chip, masters, node, mask: f"{named_node(chip, node)}: {masters_in(mask, masters)}",
+    "reset": lambda chip, masters, line, mask: f"{named_line(chip, line)}: {masters_in(mask, masters)}",
+    "shutdown": lambda _, masters, subtype, mask: f"{names.word_name('shutdown subtype', subtype)}: {masters_in(mask, masters)}",
+    "config": lambda _, masters, base, overlay: f"base {masters_in(base, masters)}; overlay {masters_in(overlay, masters)}",
 }
 
 
-def meanings_of_text(lines):
+def meanings_of_text(chip, lines):
     """What the lines of `print` mean."""
     masters = steps.master_masks(lines)
     for line in lines:
         word, *rest = line.split()
         meaning = MEANING_OF_RECORD.get(word)
-        yield meaning(masters, *map(int, rest)) if meaning else ""
+        yield meaning(chip, masters, *map(int, rest)) if meaning else ""
 
 
 # The text of a reach and of a comparison.
@@ -147,18 +150,18 @@ def answers(lines, messages):
 USAGE = {0: "used by nobody", 1: "used by it alone", 2: "used by others", 3: "used by it and others"}
 
 
-def meaning_of_words(message, words):
+def meaning_of_words(chip, message, words):
     """The three words of the answer to a message that was accepted."""
     _, api, node, *rest = message
-    kind = names.NODES[node].kind if node in names.NODES else None
+    kind = chip.nodes[node].kind if node in chip.nodes else None
     if api == 1:
         return [f"version {words[0] >> 16}.{words[0] & 0xFFFF}"]
     if api == 3 and kind == "processor":
         return [names.MODES[words[0]]]
     if api == 3 and kind == "power":
-        return [names.state_name(node, words[0])]
+        return [chip.value_name(node, words[0])]
     if api == 3:
-        return [names.state_name(node, words[0]), "requires " + capabilities(words[1]), USAGE[words[2]]]
+        return [chip.value_name(node, words[0]), "requires " + capabilities(words[1]), USAGE[words[2]]]
     if api == 4:
         return [f"{'power' if rest[0] == 1 else 'latency'} {words[0]}"]
     if api == 18:
@@ -172,48 +175,41 @@ def meaning_of_words(message, words):
     return [] if api in names.CALLS else ["words " + " ".join(map(str, words))]
 
 
-def meaning_of_answer(message, status, words):
+def meaning_of_answer(chip, message, status, words):
     """The answer to a message: its status, and the words that it has."""
     said = [names.status_words(status)]
     if status == 0:
-        said += meaning_of_words(message, words)
+        said += meaning_of_words(chip, message, words)
     elif status == 2007:
         said += [f"by {names.node_name(words[0])}"]
     return ", ".join(said).replace("node used, by", "node used by")
 
 
-def point_of(node, value):
-    """The operating point of a node: its state, or the mode of a processor."""
-    if node in names.NODES and names.NODES[node].kind == "processor":
-        return names.MODES.get(value, str(value))
-    return names.state_name(node, value)
-
-
-def meaning_of_callback(callback, words):
+def meaning_of_callback(chip, callback, words):
     name = names.callback_name(callback)
     if callback == 30:
         reason = names.word_name("suspend reason", words[0])
         return f"{name}: {reason}, latency {words[1]}, state {words[2]}, timeout {words[3]}"
     node = names.node_name(words[0])
     what = names.status_words(words[1]) if callback == 31 else names.word_name("event", words[1])
-    return f"{name} {node}: {what}" + (f", {point_of(words[0], words[2])}" if names.is_in_table(words[0]) else "")
+    return f"{name} {node}: {what}" + (f", {chip.value_name(words[0], words[2])}" if words[0] in chip.nodes else "")
 
 
-def meaning_of_command(kind, unit, _before, value):
+def meaning_of_command(chip, kind, unit, _before, value):
     if kind in ("line", "linefail"):
         said = f"reset line {names.line_name(unit)} {'asserted' if value else 'released'}"
     else:
-        said = f"{names.node_name(unit)} {names.state_name(unit, value)}"
+        said = f"{names.node_name(unit)} {chip.kept_name(unit, value)}"
     return said + ": refused by the device" * kind.endswith("fail")
 
 
-def meaning_of_end(kind, unit, value, kept):
+def meaning_of_end(chip, kind, unit, value, kept):
     """A line of the closing table."""
     if kind == "line":
         return f"reset line {names.line_name(unit)} {'asserted' if value else 'released'}"
-    shown = names.MODES[value] if kind == "proc" else names.state_name(unit, value)
+    shown = chip.value_name(unit, value)
     agrees = (value in (1, 3)) == (kept == 1) if kind == "proc" else value == kept
-    return f"{names.node_name(unit)} {shown}" + f"; the device has {names.state_name(unit, kept)}" * (not agrees)
+    return f"{names.node_name(unit)} {shown}" + f"; the device has {chip.kept_name(unit, kept)}" * (not agrees)
 
 
 def meaning_of_clock(clock, _before, runs):
@@ -226,7 +222,7 @@ def meaning_of_clock_at_end(clock, divider, index):
     return f"{names.clock_words(clock)} runs, fed by {parent} and divided by {divider}"
 
 
-def meanings_of_cores(lines, script):
+def meanings_of_cores(chip, lines, script):
     """What the lines of `replay` mean where each line of the script, which is in numbers, is one core event."""
     split = [line.split() for line in lines]
     messages = {number: message_of(line) for number, line in enumerate(script, 1)}
@@ -234,24 +230,24 @@ def meanings_of_cores(lines, script):
     for place, (step, kind, *rest) in enumerate(split):
         words = list(map(int, rest)) if step != "end" else []
         if step == "end":
-            yield meaning_of_end(kind, *map(int, rest))
+            yield meaning_of_end(chip, kind, *map(int, rest))
         elif kind == "run":
             yield f"{names.node_name(words[0])} starts at {words[1]:#x}"
         elif kind == "drop":
             yield f"{names.node_name(words[0])} isn't heard"
         elif kind == "call":
-            yield f"{names.node_name(words[0])}: {meaning_of_callback(words[1], words[2:])}"
+            yield f"{names.node_name(words[0])}: {meaning_of_callback(chip, words[1], words[2:])}"
         elif kind == "reply" and place in answered:
-            yield f"{names.node_name(words[0])}: {meaning_of_answer(messages[int(step)], words[1], words[2:])}"
+            yield f"{names.node_name(words[0])}: {meaning_of_answer(chip, messages[int(step)], words[1], words[2:])}"
         elif kind == "reply":
             yield f"{names.node_name(words[0])}: its request to suspend ended with {names.status_words(words[1])}"
         else:
-            yield meaning_of_command(kind, *words)
+            yield meaning_of_command(chip, kind, *words)
 
 
-def meanings_of_replay(told):
+def meanings_of_replay(chip, told):
     """What the lines of a replay mean."""
-    meanings = meanings_of_cores(told.cores, told.script)
+    meanings = meanings_of_cores(chip, told.cores, told.script)
     for line in told.lines:
         step, kind, number, *words = line.split()
         if kind == "clock":
@@ -299,36 +295,58 @@ def show(lines, meanings):
     sys.stdout.write("".join(line + "\n" for line in put_together(lines, meanings)))
 
 
-def replay(room, obj, script):
-    told = steps.replay_of(obj, to_numbers.in_numbers(read_file(script), script), room, script)
-    show(told.lines, meanings_of_replay(told))
+def chip_of(obj, topology):
+    """The chip over which a view looks at the object of a file."""
+    return chips.chosen(obj, objects.load(obj), topology).chip
 
 
-def reach(_room, obj, node):
-    lines = run_text(["reach", obj, node_in_numbers(node)], ["reach", obj, node])
+def beside(board, node, lines):
+    """What reset lines of several units bring into a reach on the chip, beside what the program has in it: comments."""
+    have = {tuple(line.split()[:2]) for line in lines}
+    more = [str(member) for member in permits.reach(board, node) if (member.kind, str(member.number)) not in have]
+    if more:
+        yield "# Reset lines of several units bring in besides, on the chip:"
+        yield from put_together([f"# {line}" for line in more], map(meaning_of_reached, more))
+
+
+def replay(room, obj, script, *topology):
+    chip = chip_of(obj, topology)
+    told = steps.replay_of(obj, chip, to_numbers.in_numbers(read_file(script), script), room, script)
+    show(told.lines, meanings_of_replay(chip, told))
+
+
+def reach(_room, obj, node, *topology):
+    board = chips.chosen(obj, objects.load(obj), topology)
+    number, topology = node_in_numbers(node), board.chip.words()
+    lines = run_text(["reach", obj, number, *topology], ["reach", obj, node, *topology])
+    show(lines, map(meaning_of_reached, lines))
+    sys.stdout.writelines(line + "\n" for line in beside(board, to_numbers.value_of(number), lines))
+
+
+def isolate(room, obj, script, node, *topology):
+    chip = chip_of(obj, topology)
+    words = ["isolate", obj, translated(script, room)[1], node_in_numbers(node), *chip.words()]
+    lines = run_text(words, ["isolate", obj, script, node, *chip.words()])
     show(lines, map(meaning_of_reached, lines))
 
 
-def isolate(room, obj, script, node):
-    words = ["isolate", obj, translated(script, room)[1], node_in_numbers(node)]
-    lines = run_text(words, ["isolate", obj, script, node])
-    show(lines, map(meaning_of_reached, lines))
-
-
-def print_text(_room, obj):
+def print_text(_room, obj, *topology):
+    chip = chip_of(obj, topology)
     lines = run_text(["print", obj])
-    show(lines, meanings_of_text(lines))
+    show(lines, meanings_of_text(chip, lines))
 
 
 def build(room, text):
     sys.stdout.buffer.write(run(["build", translated(text, room)[1]], ["build", text]))
 
 
-FORMS = {"replay": (replay, 2), "reach": (reach, 2), "isolate": (isolate, 3), "print": (print_text, 1), "build": (build, 1)}
+# Each form, and how many words it takes: at least, at most.
+FORMS = {"replay": (replay, 2, 3), "reach": (reach, 2, 3), "isolate": (isolate, 3, 4), "print": (print_text, 1, 2), "build": (build, 1, 1)}
 
 
 def main(words):
-    if not words or words[0] not in FORMS or len(words) - 1 != FORMS[words[0]][1]:
+    _, least, most = FORMS.get(words[0] if words else "", (None, 1, 0))
+    if not least <= len(words) - 1 <= most:
         raise BadUse("--names is followed by replay, reach, isolate, print or build with its words, as in ./pmu --help")
     with tempfile.TemporaryDirectory() as room:
         FORMS[words[0]][0](room, *words[1:])

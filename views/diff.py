@@ -1,4 +1,4 @@
-"""`diff OBJ SCRIPT NODE`: a script with the messages of the master NODE and without them, side by side.
+"""`diff OBJ SCRIPT NODE [TOPO]`: a script with the messages of the master NODE and without them, side by side.
 
 In the second run each message of NODE, and each power call if NODE is the master that they are sent as, is an empty
 line, so that lines keep their numbers. By step it shows what differs: units with the values from and to, starts, answers, callbacks and late replies. What is NODE's own comes after
@@ -10,6 +10,7 @@ import tempfile
 from typing import NamedTuple
 
 import annotate
+import chip as chips
 import names
 import objects
 import permits
@@ -19,11 +20,12 @@ import steps
 import to_names
 import to_numbers
 
-USAGE = "usage: ./pmu diff OBJ SCRIPT NODE"
+USAGE = "usage: ./pmu diff OBJ SCRIPT NODE [TOPO]"
 
 NODE_USED, ACKNOWLEDGE = 2007, 31
-# The master as which the boot firmware sends what a power call comes to.
-CALLER = 1
+
+# The words that a comparison has for units.
+WORDS = {"processor": "proc", "power": "power", "slave": "slave"}
 
 TITLES = {"answer": "answer to", "call": "callback to", "run": "start of"}
 REMARKS = ("DENIED", "REFUSED", "NOT HEARD")
@@ -46,7 +48,7 @@ def is_call(line):
 def is_from(line, node):
     """Whether a line is a message of a master, or a power call that is sent as messages of it."""
     message = annotate.message_of(line)
-    return message[0] == node if message else node == CALLER and is_call(line)
+    return message[0] == node if message else node == split.CALLER and is_call(line)
 
 
 def without_messages(content, node):
@@ -63,12 +65,12 @@ def without_messages(content, node):
 # One run: what is in each of its steps.
 
 
-def value_name(unit, value):
+def value_name(chip, unit, value):
     if unit.kind == "line":
         return "asserted" if value else "released"
     if unit.kind == "clock":
         return "runs" if value else "stopped"
-    return names.MODES[value] if permits.is_processor(unit.number) else names.state_name(unit.number, value)
+    return chip.value_name(unit.number, value)
 
 
 def moves_of(run):
@@ -105,12 +107,12 @@ def word_of(kind, words, meaning):
     return Word(" ".join([kind, *map(str, words)]), f"{status} {said}" if kind == "reply" else said, status)
 
 
-def words_of(run, node):
+def words_of(chip, run, node):
     """Of each step: the starts, answers and callbacks by what they are about. What the master is told by a message of its
     own, which the other run lacks, is left out."""
     told, found = run.replay, [{} for _ in run.changes]
     senders = [(annotate.message_of(line) or [None])[0] for line in told.script]
-    for line, meaning in zip(told.cores, annotate.meanings_of_cores(told.cores, told.script)):
+    for line, meaning in zip(told.cores, annotate.meanings_of_cores(chip, told.cores, told.script)):
         step, kind, *rest = line.split()
         if step == "end" or kind not in ("run", "reply", "call", "drop"):
             continue
@@ -142,10 +144,10 @@ def remark_of(words, others):
     return refused if any(status > 0 for status in statuses) else unheard if words else ""
 
 
-def rows_of_units(moves, others):
+def rows_of_units(chip, moves, others):
     """What differs in the values of units."""
     for unit in {**moves, **others}:
-        texts = [" -> ".join(value_name(unit, value) for value in run.get(unit, [])) for run in (moves, others)]
+        texts = [" -> ".join(value_name(chip, unit, value) for value in run.get(unit, [])) for run in (moves, others)]
         if texts[0] != texts[1]:
             yield Row((unit.kind, unit.number), *texts, "")
 
@@ -158,41 +160,43 @@ def rows_of_words(words, others):
             yield Row(about, joined(ours, theirs), joined(theirs, ours), remark_of(ours, theirs))
 
 
-def rows_of_steps(runs, node):
+def rows_of_steps(chip, runs, node):
     """Of each step, what differs."""
     moves = [moves_of(run) for run in runs]
-    words = [words_of(run, node) for run in runs]
+    words = [words_of(chip, run, node) for run in runs]
     for step in range(len(runs[0].changes)):
-        yield [*rows_of_units(*(run[step] for run in moves)), *rows_of_words(*(run[step] for run in words))]
+        yield [*rows_of_units(chip, *(run[step] for run in moves)), *rows_of_words(*(run[step] for run in words))]
 
 
 # What belongs to the master.
 
 
-def users(found, number):
+def users(board, number):
     """The masters that have a processor, may use a slave, or do so below a power node."""
-    if permits.is_power(number):
-        below = [node for node in names.NODES if names.is_in_table(node) and permits.is_above(number, node)]
-        return {user for node in below for user in users(found, node)}
-    if permits.is_processor(number):
-        return {permits.owner(found, number)} - {None}
-    return {node for node, record in permits.masters(found).items() if number in permits.slaves_of(found, record.mask)}
+    chip = board.chip
+    if chip.is_kind(number, "power"):
+        return {user for node in chip.below(number) for user in users(board, node)}
+    if chip.is_kind(number, "processor"):
+        return {permits.owner(board, number)} - {None}
+    return {node for node, record in permits.masters(board).items() if number in permits.slaves_of(board, record.mask)}
 
 
-def is_own(found, node, subject):
+def is_own(board, node, subject):
     """Whether a unit is of the master alone, or an answer or callback is to it."""
     kind, number = subject
     if kind in ("answer", "call"):
         return number == node
     if kind == "clock":
         number = names.CLOCKS[number].node
-    return users(found, number) == {node}
+    if kind == "line":
+        return all(users(board, target) == {node} for target in board.chip.resets[number] or [None])
+    return users(board, number) == {node}
 
 
 # The text.
 
 
-def title(subject):
+def title(chip, subject):
     """What a row is about, with the words that a comparison has for units."""
     kind, number = subject
     if kind == "line":
@@ -200,7 +204,7 @@ def title(subject):
     if kind == "clock":
         return f"clock {names.clock_name(number)}"
     if kind == "node":
-        kind = "proc" if permits.is_processor(number) else "power" if permits.is_power(number) else "slave"
+        kind = WORDS[chip.nodes[number].kind]
     return f"{TITLES.get(kind, kind)} {names.node_name(number)}"
 
 
@@ -211,55 +215,57 @@ def step_title(step, script):
     return f"step {step}: {to_names.line_in_names(script[step - 1], {}) or 'no event'}"
 
 
-def table(steps_with_rows, script):
+def table(chip, steps_with_rows, script):
     """The rows of each step, in columns."""
     rows = [row for _, of_step in steps_with_rows for row in of_step]
-    first = max((len(title(row.subject)) for row in rows), default=0)
+    first = max((len(title(chip, row.subject)) for row in rows), default=0)
     second = max([len(row.with_it) for row in rows] + [1])
     third = max([len(row.without) for row in rows] + [1])
     for step, of_step in steps_with_rows:
         yield step_title(step, script)
         for row in of_step:
-            cells = f"  {title(row.subject):<{first}}  {row.with_it or '-':<{second}} | {row.without or '-':<{third}}"
+            cells = f"  {title(chip, row.subject):<{first}}  {row.with_it or '-':<{second}} | {row.without or '-':<{third}}"
             yield f"{cells}  {row.remark}".rstrip()
 
 
-def part(name, steps_with_rows, script):
+def part(chip, name, steps_with_rows, script):
     """One of the two parts of the text."""
-    return [name + (":" if steps_with_rows else ": nothing differs"), *table(steps_with_rows, script)]
+    return [name + (":" if steps_with_rows else ": nothing differs"), *table(chip, steps_with_rows, script)]
 
 
-def text(found, node, rows, script, silenced):
+def text(board, node, rows, script, silenced):
     """The text: of others, and then of the master itself."""
     others, own = [], []
     for step, of_step in enumerate(rows):
         for kept, part_of in ((others, False), (own, True)):
-            ours = [row for row in of_step if is_own(found, node, row.subject) == part_of]
+            ours = [row for row in of_step if is_own(board, node, row.subject) == part_of]
             if ours:
                 kept.append((step, ours))
     name = names.node_name(node)
     calls = sum(is_call(script[number - 1]) for number in silenced)
     messages = f"{len(silenced) - calls} messages" + f" and {calls} power calls" * (calls > 0)
     yield f"with the {messages} of {name} | without them"
-    yield from part("of others", others, script)
-    yield from part(f"of {name} alone", own, script)
+    yield from part(board.chip, "of others", others, script)
+    yield from part(board.chip, f"of {name} alone", own, script)
     remarks = [row.remark for _, of_step in others for row in of_step]
     counts = [f"{remarks.count(remark)} {remark.lower()}" for remark in REMARKS]
     yield f"successes that others lose: {', '.join(counts)}"
 
 
 def main(words):
-    if len(words) != 3:
+    if len(words) not in (3, 4):
         raise program.BadUse(USAGE)
-    path, file, word = words[0], words[1], annotate.node_in_numbers(words[2])
+    path, file, word, *topology = words
+    board = chips.chosen(path, objects.load(path), topology)
     with tempfile.TemporaryDirectory() as room:
         content, script = annotate.translated(file, room)
         # (it judges all three, and what it says of a fault is handed on)
-        program.run(["isolate", path, script, word], ["isolate", path, file, words[2]])
-        node, found = to_numbers.value_of(word), objects.read(path)
+        judged = ["isolate", path, script, annotate.node_in_numbers(word), *board.chip.words()]
+        program.run(judged, ["isolate", path, file, word, *board.chip.words()])
+        node = to_numbers.value_of(judged[3])
         first = re.sub(rb"\r(?=\n|\Z)", b"", content)
         second, silenced = without_messages(first, node)
-        runs = [steps.steps_of(path, each, room) for each in (first, second)]
-    shown = text(found, node, list(rows_of_steps(runs, node)), steps.script_lines(first), silenced)
+        runs = [steps.steps_of(path, board.chip, each, room) for each in (first, second)]
+    shown = text(board, node, list(rows_of_steps(board.chip, runs, node)), steps.script_lines(first), silenced)
     print("".join(line + "\n" for line in shown), end="")
     return 0

@@ -5,8 +5,10 @@ message, by rising mask of their masters. A power call by `smc` becomes the line
 nothing is empty.
 """
 
-import names
 import to_numbers
+
+# The master as which the boot firmware sends what a power call comes to.
+CALLER = 1
 
 # Power calls by their numbers (Arm DEN0022).
 CPU_OFF, SYSTEM_OFF, SYSTEM_RESET = 0x84000002, 0x84000008, 0x84000009
@@ -26,11 +28,10 @@ def is_split(script):
     return any(first_word(line) in ("post", "serve", "smc") for line in script)
 
 
-def lowered(line):
-    """The lines that a power call comes to. Its targets are the processors of master 1 by their places."""
+def lowered(line, targets):
+    """The lines that a power call comes to. Its targets are the processors of its caller's master, by their places."""
     words = [to_numbers.value_of(word) for _, word in to_numbers.words_of(line)[1:]]
     proc, function, first, second, _ = words + [0] * (5 - len(words))
-    targets = names.MASTERS[1]
     if proc not in targets:
         return [""]
     if function == CPU_OFF:
@@ -53,14 +54,14 @@ def sent(line):
     return line[:start] + "ipi" + line[start + len(word) :]
 
 
-def core_lines(line, masks, boxes):
-    """The lines of the core events of a line. `masks` has the mask of each configured master, and `boxes` the line that
-    sends the message of each master that has one in its box."""
+def core_lines(line, masks, targets, boxes):
+    """The lines of the core events of a line. `masks` has the mask of each configured master, `targets` the processors that
+    a power call may name, and `boxes` the line that sends the message of each master that has one in its box."""
     first = first_word(line)
     if first == "serve":
         return [boxes.pop(master) for master in sorted(boxes, key=masks.get)] or [""]
     if first == "smc":
-        return lowered(line)
+        return lowered(line, targets)
     if first != "post":
         return [line]
     master = to_numbers.value_of(to_numbers.words_of(line)[1][1])
@@ -70,11 +71,11 @@ def core_lines(line, masks, boxes):
     return [""]
 
 
-def split(script, masks):
+def split(script, masks, targets):
     """The lines of all core events, and of each of them the number of the line that it comes from."""
     cores, numbers, boxes = [], [], {}
     for number, line in enumerate(script, 1):
-        lines = core_lines(line, masks, boxes)
+        lines = core_lines(line, masks, targets, boxes)
         cores += lines
         numbers += [number] * len(lines)
     return cores, numbers

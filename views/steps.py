@@ -9,7 +9,6 @@ that line has it.
 import os
 from typing import NamedTuple
 
-import names
 import split
 import to_numbers
 from program import BadUse, Failed, run_text, write_file
@@ -91,11 +90,11 @@ def master_masks(lines):
     return {node: mask for node, mask, *_ in records}
 
 
-def owners(obj):
+def owners(obj, chip):
     """The processors of configured masters, each with its master: the first one of the object that has it."""
     found = {}
     for master in master_masks(run_text(["print", obj])):
-        for proc in names.MASTERS[master]:
+        for proc in chip.owners[master]:
             found.setdefault(proc, master)
     return found
 
@@ -132,11 +131,11 @@ def questions(script, heard, owner):
     return made, asks
 
 
-def lines_of(obj, content, room, name=None):
-    """The lines of the replay of a script; `name` is that of its file, if it has one."""
+def lines_of(obj, chip, content, room, name=None):
+    """The lines of the replay of a script over a chip; `name` is that of its file, if it has one."""
     path = os.path.join(room, "script")
     write_file(path, content)
-    return run_text(["replay", obj, path], ["replay", obj, name or path])
+    return run_text(["replay", obj, path, *chip.words()], ["replay", obj, name or path, *chip.words()])
 
 
 def of_cores(lines):
@@ -144,13 +143,13 @@ def of_cores(lines):
     return [line for line in lines if line.split()[1] not in OWN]
 
 
-def replay_of(obj, content, room, name=None):
+def replay_of(obj, chip, content, room, name=None):
     """The replay of a script in numbers, from the file of that name; `room` is a folder for files."""
-    script, lines = script_lines(content), lines_of(obj, content, room, name)
+    script, lines = script_lines(content), lines_of(obj, chip, content, room, name)
     if not split.is_split(script):
         return Replay(lines, of_cores(lines), script, list(range(1, len(script) + 1)))
-    cores, numbers = split.split(script, master_masks(run_text(["print", obj])))
-    return Replay(lines, of_cores(lines_of(obj, content_of(cores), room)), cores, numbers)
+    cores, numbers = split.split(script, master_masks(run_text(["print", obj])), chip.owners[split.CALLER])
+    return Replay(lines, of_cores(lines_of(obj, chip, content_of(cores), room)), cores, numbers)
 
 
 def content_of(script):
@@ -158,11 +157,11 @@ def content_of(script):
     return "".join(line + "\n" for line in script).encode("latin-1")
 
 
-def asked_modes(obj, script, heard, owner, room):
+def asked_modes(obj, chip, script, heard, owner, room):
     """By step the mode of each processor, where it was asked for."""
     made, asks = questions(script, heard, owner)
     try:
-        lines = lines_of(obj, content_of(made), room)
+        lines = lines_of(obj, chip, content_of(made), room)
     except Failed as failed:
         raise BadUse(f"the script is too long to ask for the modes of its processors (exit {failed.status})") from None
     modes = {}
@@ -174,7 +173,7 @@ def asked_modes(obj, script, heard, owner, room):
     return modes
 
 
-def modes_without_a_master(obj, script, step, before, heard, room):
+def modes_without_a_master(obj, chip, script, step, before, heard, room):
     """The modes after a step after which nobody is heard."""
     words = script[step - 1].split()
     if heard[step - 1] is None or not words:
@@ -182,20 +181,20 @@ def modes_without_a_master(obj, script, step, before, heard, room):
     if words[0] == "wfi":
         proc = to_numbers.value_of(words[1])
         return before | ({proc: ASLEEP} if before.get(proc) == SUSPENDING else {})
-    table = closing_of(lines_of(obj, content_of(script[:step]), room))
+    table = closing_of(lines_of(obj, chip, content_of(script[:step]), room))
     return {proc: table.get(Unit("node", proc), 0) for proc in before}
 
 
-def modes_of(obj, script, changes, room):
+def modes_of(obj, chip, script, changes, room):
     """After each step the mode of each processor of a configured master. Each line of the script is one core event."""
-    owner = owners(obj)
+    owner = owners(obj, chip)
     heard = awake(changes, owner)
-    asked = asked_modes(obj, script, heard, owner, room)
+    asked = asked_modes(obj, chip, script, heard, owner, room)
     first = {proc: 0 for proc in owner} | {unit.number: 1 for unit, _ in changes[0] if unit.number in owner}
     modes = [first]
     for step in range(1, len(script) + 1):
         if heard[step] is None:
-            modes.append(modes_without_a_master(obj, script, step, modes[-1], heard, room))
+            modes.append(modes_without_a_master(obj, chip, script, step, modes[-1], heard, room))
         else:
             modes.append(modes[-1] | asked.get(step, {}))
     return modes
@@ -220,9 +219,9 @@ def by_line(numbers, changes):
     return made
 
 
-def steps_of(obj, content, room, name=None):
+def steps_of(obj, chip, content, room, name=None):
     """The steps of the replay of a script in numbers, from the file of that name; `room` is a folder for files."""
-    told = replay_of(obj, content, room, name)
+    told = replay_of(obj, chip, content, room, name)
     changes = changes_of(told.cores, len(told.script))
-    changes = with_modes(changes, modes_of(obj, told.script, changes, room))
+    changes = with_modes(changes, modes_of(obj, chip, told.script, changes, room))
     return Steps(told, with_clocks(by_line(told.numbers, changes), told.lines), closing_of(told.lines))

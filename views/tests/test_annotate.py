@@ -5,7 +5,7 @@ import unittest
 
 import annotate
 import names
-from common import Case, example, examples, program, view
+from common import Case, board_of, example, examples, program, view
 
 SCRIPT_WITH_NAMES = """\
 # Master 1 and the serial port.
@@ -53,8 +53,9 @@ class Names(Case):
     def test_each_line_of_each_example_stays_and_has_its_meaning(self):
         count = 0
         for words in runs():
-            plain = program(*words)[1].decode().splitlines()
-            shown = self.text("--names", *words).splitlines()
+            topology = board_of(words[1]).chip.words() if words[0] != "print" else []
+            plain = program(*words, *topology)[1].decode().splitlines()
+            shown = [line for line in self.text("--names", *words).splitlines() if not line.startswith("#")]
             self.assertEqual([line.split("#")[0].rstrip() for line in shown], plain, words)
             columns = {line.index("# ") for line in shown if "# " in line}
             self.assertEqual(len(columns), 1, words)
@@ -222,7 +223,7 @@ class Names(Case):
         )
 
     def test_an_acknowledge_kind_before_a_carriage_return(self):
-        script = "boot 7 0\r\nipi 7 6 7 2 0 0\r\nipi 7 8 6 1\r\nipi 1 18 33\r\n"
+        script = "boot 7 0\r\nipi 7 6 7 2 0 0\r\nipi 7 8 6 1\r\nipi 1 18 1000\r\n"
         self.check(
             ["replay", example("three-masters.obj"), self.file("crlf.script", script)],
             {"3 reply 7 0 0 0 0": "RPU_0: its request to suspend ended with success", "4 reply 1 0 0 0 0": "APU: success, released"},
@@ -251,8 +252,8 @@ class Names(Case):
                 "slave 34 0 256": "UART_1: RPU_0",
                 "group 1": "APU",
                 "prefer 33 2 1 0": "UART_0: in use with ACCESS; preset nothing",
-                "reset 33 1": "UART_0: APU",
-                "reset 1035 256": "RESET_UART1, which the table lacks: RPU_0",
+                "reset 33 1": "UART_0, which the table lacks: APU",
+                "reset 1035 256": "RESET_UART1: RPU_0",
                 "shutdown 2 1": "SYSTEM: APU",
             },
         )
@@ -301,12 +302,6 @@ class Names(Case):
         self.assertIn("no.script: No such file", self.refused("--names", "replay", example("laboratory.obj"), missing))
         bad = self.file("bad.script", "wfi 2\nipi APU REQUEST_NODE UART_9\n")
         self.assertIn("bad.script:2: no node is named UART_9", self.refused("--names", "replay", example("laboratory.obj"), bad))
-
-
-class Points(unittest.TestCase):
-    def test_an_operating_point_of_each_kind_of_node(self):
-        self.assertEqual([annotate.point_of(2, mode) for mode in range(4)], list(names.MODES.values()))
-        self.assertEqual([annotate.point_of(11, 1), annotate.point_of(10, 1), annotate.point_of(33, 1)], ["retention", "on", "on"])
 
 
 if __name__ == "__main__":

@@ -5,11 +5,10 @@ import unittest
 
 import annotate
 import diff
-import objects
 import permits
 import program as programs
 import steps
-from common import Case, example, examples, program, view
+from common import Case, board_of, example, examples, program, view
 
 # RPU_0 asks for SATA, which one master at a time may use, while APU has it; and more.
 SCRIPT = """ipi 1 21
@@ -137,7 +136,7 @@ class Text(Case):
                 self.assertEqual(line.count(" | "), 1, line)
 
     def test_what_is_of_a_master_alone(self):
-        found = objects.read(example("laboratory.obj"))
+        found = board_of(example("laboratory.obj"))
         own = [number for number in [1, 2, 6, 7, 10, 11, 28, 33, 62] if diff.is_own(found, 1, ("node", number))]
         self.assertEqual(own, [1, 2, 33])
         self.assertEqual([number for number in [1, 6, 7, 8, 10, 33] if diff.is_own(found, 7, ("node", number))], [6, 7])
@@ -146,8 +145,8 @@ class Text(Case):
 
     def test_bad_use(self):
         script = self.file("script", SCRIPT)
-        for words in ([], ["a", "b"], ["a", "b", "c", "d"]):
-            self.assertEqual(self.refused("diff", *words), "pmu: usage: ./pmu diff OBJ SCRIPT NODE")
+        for words in ([], ["a", "b"], ["a", "b", "c", "d", "e"]):
+            self.assertEqual(self.refused("diff", *words), "pmu: usage: ./pmu diff OBJ SCRIPT NODE [TOPO]")
         self.assertIn("No such file", self.refused("diff", example("laboratory.obj"), script + ".none", "1"))
         self.assertEqual(view("diff", example("laboratory.obj"), script, "8")[:2], (8, b"fault node\n"))
         self.assertEqual(view("diff", script, script, "1")[:2], (2, program("print", script)[1]))
@@ -175,7 +174,7 @@ class Comparison(Case):
     def moves(self, path, content):
         """What moves in the run of a script, by step: units with their first and last values."""
         if (path, content) not in self.known:
-            steps_moves = enumerate(diff.moves_of(steps.steps_of(path, content, self._room.name)))
+            steps_moves = enumerate(diff.moves_of(steps.steps_of(path, board_of(path).chip, content, self._room.name)))
             moves = {(step, unit, values[0], values[-1]) for step, moves in steps_moves for unit, values in moves.items()}
             # (a line that is pulsed has the same value before and after)
             self.known[path, content] = {move for move in moves if move[2] != move[3]}
@@ -188,17 +187,18 @@ class Comparison(Case):
         if not silenced:
             return
         self.count += 1
-        status, compared, _ = program("isolate", path, script, str(node))
+        chip = board_of(path).chip
+        status, compared, _ = program("isolate", path, script, str(node), *chip.words())
         self.assertEqual(status, 0)
         wanted = {tuple(line.split()[1:]) for line in compared.decode().splitlines() if line.startswith("differ")}
         # (it doesn't list clocks)
         units = {unit for _, unit, _, _ in self.moves(path, first) ^ self.moves(path, second) if unit.kind != "clock"}
-        found = {(diff.title((unit.kind, unit.number)).split()[0], str(unit.number)) for unit in units}
+        found = {(diff.title(chip, (unit.kind, unit.number)).split()[0], str(unit.number)) for unit in units}
         self.assertEqual(found, wanted)
         self.kinds |= {kind for kind, _ in found}
 
     def check_all(self, path, script):
-        for node in permits.masters(objects.read(path)):
+        for node in permits.masters(board_of(path)):
             with self.subTest(f"{os.path.basename(path)} {os.path.basename(script)} {node}"):
                 self.check(path, script, node)
 

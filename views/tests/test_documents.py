@@ -32,9 +32,10 @@ def checker():
 
 class Documents(Case):
     def prepare(self):
-        """A folder with the examples and a wrapper."""
+        """A folder with the examples, the topologies and a wrapper."""
         folder = os.path.join(self._room.name, "room")
-        shutil.copytree(os.path.join(TOP, "examples"), os.path.join(folder, "examples"))
+        for name in ("examples", "topologies"):
+            shutil.copytree(os.path.join(TOP, name), os.path.join(folder, name))
         wrapper = os.path.join(folder, "pmu")
         with open(wrapper, "w", encoding="utf-8") as file:
             main, program = os.path.join(VIEWS, "main.py"), os.environ["PMU_PROGRAM"]

@@ -1,5 +1,6 @@
 """`--dot`: the graph has each member of the reach with its reason."""
 
+import itertools
 import os
 import re
 import shutil
@@ -7,7 +8,8 @@ import subprocess
 import unittest
 
 import names
-from common import TOP, Case, example, examples, program, view
+import permits
+from common import TOP, Case, board_of, example, examples, program, view
 
 
 def masters_of(obj):
@@ -16,7 +18,7 @@ def masters_of(obj):
 
 def arrows(graph):
     """The arrows of a graph: from, to and the label."""
-    return re.findall(r"^  (\w+) -> (\w+) \[label=\"([\w ]+)\"", graph, re.MULTILINE)
+    return re.findall(r"^  (\w+) -> (\w+) \[label=\"([\w, ]+)\"", graph, re.MULTILINE)
 
 
 def boxes(graph):
@@ -44,7 +46,7 @@ class Graph(Case):
     def check(self, obj, node):
         graph = self.text("--dot", "reach", obj, node)
         drawn, labels, count = arrows(graph), boxes(graph), 0
-        for line in program("reach", obj, node)[1].decode().splitlines():
+        for line in map(str, permits.reach(board_of(obj), int(node))):
             kind, number, reason, *path = line.split()
             if kind == "master" and reason != "self":
                 self.assertIn((f"master_{path[-2]}", f"master_{number}", reason), drawn, line)
@@ -53,9 +55,41 @@ class Graph(Case):
             elif kind in ("slave", "line"):
                 self.assertEqual(self.arrows_to(int(number), kind, drawn, labels), [(f"master_{path[-1]}", reason)], line)
                 count += 1
+        self.assertIn("first reason alone", graph)
         units = [box for box in labels if box.startswith(("slaves_", "lines_"))]
         listed = sum(len([name for name in labels[box] if name != "reset lines"]) for box in units)
         self.assertEqual(listed, count, (obj, node))
+
+    def test_all_reasons_are_drawn_if_they_are_wanted(self):
+        for obj in (example("laboratory.obj"), example("pm_cfg_obj.obj")):
+            board = board_of(obj)
+            graph = self.text("--dot", "--all", "reach", obj, "RPU_0")
+            drawn, labels = arrows(graph), boxes(graph)
+            masters = [number for kind, number, *_ in permits.reach(board, 7) if kind == "master"]
+            for a, b in itertools.permutations(masters, 2):
+                words = list(dict.fromkeys(reason.why for reason in permits.leads(board, a, b)))
+                wanted = [(f"master_{a}", f"master_{b}", ", ".join(words))] if words else []
+                self.assertEqual([arrow for arrow in drawn if arrow[:2] == (f"master_{a}", f"master_{b}")], wanted)
+            for kind, number, *_ in permits.reach(board, 7):
+                if kind in ("slave", "line"):
+                    reasons = {a: permits.brings(board, a, kind, number) for a in masters}
+                    words = [(f"master_{a}", ", ".join(dict.fromkeys(it.why for it in why))) for a, why in reasons.items() if why]
+                    self.assertEqual(sorted(self.arrows_to(number, kind, drawn, labels)), sorted(words))
+
+    def test_the_legend_has_the_words_that_are_drawn(self):
+        graph = self.text("--dot", "reach", example("laboratory.obj"), "7")
+        text = re.search(r'legend \[.*label="(.*)"', graph)[1].split("\\l")
+        self.assertEqual([line.split(":")[0] for line in text if line.startswith(("use", "force", "reset", "wake"))], ["use", "force", "reset"])
+        self.assertNotIn("dotted box: a master beyond the reach", text)
+        self.assertIn("dotted box: a master beyond the reach", self.text("--dot", "reach", example("two-masters.obj"), "RPU_0"))
+        self.assertIn("each arrow has all its reasons", self.text("--dot", "--all", "reach", example("laboratory.obj"), "7"))
+
+    def test_a_line_of_several_units_is_drawn_as_what_it_resets(self):
+        text = "header\nsection masters\nmaster 1 1 9 0 0\nmaster 7 256 9 0 0\nsection reset\nreset 1113 1\n"
+        obj = self.file("obj", program("build", self.file("text", text))[1])
+        graph = self.text("--dot", "reach", obj, "APU")
+        self.assertIn(("master_1", "master_7", "reset"), arrows(graph))
+        self.assertEqual(boxes(graph)["slaves_6_1_reset"], ["TCM_0_A", "TCM_0_B", "TCM_1_A", "TCM_1_B"])
 
     def arrows_to(self, number, kind, drawn, labels):
         """The arrows to the box that has a slave or line: from which master, and why."""

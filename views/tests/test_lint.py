@@ -8,7 +8,7 @@ import unittest.mock
 import lint
 import objects
 import program as programs
-from common import Case, example, examples, program, view
+from common import TOPOLOGIES, Case, example, examples, program, view
 from forms import FOUND
 
 TWO = ["header", "section masters", "master 1 1 100 0 0", "master 7 2 100 0 0"]
@@ -30,11 +30,17 @@ OBJECTS = {
             "prefer 77 2 1 1: PMU is no slave of the table of the chip",
             "power 33 2: UART_0 is no power node or processor of the table of the chip; reach and isolate don't see that RPU_0 may force it",
             "power 78 0: node 78 is no power node or processor of the table of the chip",
-            "reset 1035 3: RESET_UART1 is no reset line of the table of the chip; reach and isolate don't see that APU, RPU_0 may reset it",
-            "reset 1119 0: RESET_PS_PL3 is no reset line of the table of the chip",
             "reset 62 1: line 62 is no reset line of the table of the chip; reach and isolate don't see that APU may reset it",
             "shutdown 0 1: a master may always shut itself down",
             "shutdown 3 0: no call has the subtype 3",
+        ],
+    ),
+    "no-unit": (
+        TWO,
+        ["section reset", "reset 1004 3", "reset 1081 2", "reset 1119 0", "reset 1034 1", "reset 1113 1"],
+        [
+            "reset 1004 3: RESET_SWDT_CRF resets none of the chip's nodes; reach and isolate don't see that APU, RPU_0 may reset it",
+            "reset 1081 2: RESET_GPO3_PL_0 resets none of the chip's nodes; reach and isolate don't see that RPU_0 may reset it",
         ],
     ),
     "no-master": (
@@ -95,6 +101,16 @@ OBJECTS = {
         SHARED + ["section prealloc", "group 3", "prefer 33 2 1 1", "prefer 34 0 0 1", "group 1", "prefer 15 2 1 1"],
         ["prefer 34 0 0 1: UART_1 isn't shareable, and is preallocated for APU and RPU_0"],
     ),
+    "several-units": (
+        TWO,
+        ["section reset", "reset 1014 1", "reset 1028 2", "reset 1034 1", "reset 1071 0", "reset 1113 3", "reset 1057 1"],
+        [
+            "reset 1014 1: APU may reset GPU_PP_0, GPU_PP_1 by RESET_GPU, and reach and isolate don't see it",
+            "reset 1028 2: RPU_0 may reset all of LPD, all of FPD, all of PLD by RESET_SOFT, and reach and isolate don't see it",
+            "reset 1113 3: APU, RPU_0 may reset all of RPU by RESET_RPU_LS, and reach and isolate don't see it",
+            "reset 1057 1: APU may reset OCM_BANK_0, OCM_BANK_1, OCM_BANK_2, OCM_BANK_3 by RESET_OCM, and reach and isolate don't see it",
+        ],
+    ),
     "forces-a-master": (
         THREE,
         ["section power", "power 10 3", "power 6 6", "power 7 4", "power 8 4", "power 9 7", "power 62 1", "power 1 1"],
@@ -151,10 +167,16 @@ class Lint(Case):
 
     def test_the_records_of_the_example_that_the_table_lacks(self):
         path = next(path for path in examples(".obj") if path.endswith("pm_cfg_obj.obj"))
-        found = self.split(path, self.text("lint", path))
+        found = self.split(path, self.text("lint", path, os.path.join(TOPOLOGIES, "zynqmp.topology")))
         lines = [record.split()[1] for _, record, _, check in found if check == "not-in-table"]
         self.assertEqual(lines, [str(line) for line in range(1000, 1120)])
-        self.assertEqual([check for *_, check in found[120:]], ["only-preset"] * 7 + ["forces-a-master"] * 2 + ["leads-to-all"] * 4)
+        others = ["only-preset"] * 7 + ["forces-a-master"] * 2 + ["leads-to-all"] * 4
+        self.assertEqual([check for *_, check in found[120:]], others)
+        # (over the published lines, those of the PL have no unit)
+        found = self.split(path, self.text("lint", path))
+        lines = [record.split()[1] for _, record, _, check in found if check == "no-unit"]
+        self.assertEqual(lines, [str(line) for line in [*range(1081, 1113), *range(1116, 1120)]])
+        self.assertEqual([check for *_, check in found[36:]], ["only-preset"] * 7 + ["several-units"] * 6 + others[7:])
 
     def test_the_exit(self):
         clean, full = self.object_of(TWO), self.file("full.obj", programs.read_file(examples("laboratory.obj")[0]))
@@ -167,8 +189,8 @@ class Lint(Case):
         self.assertEqual(self.text("lint", self.object_of(lines + ["section config", "config 1 1"])), "")
 
     def test_bad_use(self):
-        for words in ([], ["--strict"], ["a", "b"], ["--strict", "--strict"], ["--strict", "a", "b"], ["--what", "a"]):
-            self.assertEqual(self.refused("lint", *words), "pmu: usage: ./pmu lint [--strict] OBJ")
+        for words in ([], ["--strict"], ["a", "b", "c"], ["--strict", "--strict"], ["--strict", "a", "b", "c"], ["--what", "a"]):
+            self.assertEqual(self.refused("lint", *words), "pmu: usage: ./pmu lint [--strict] OBJ [TOPO]")
 
     def test_what_is_no_object_is_told(self):
         bad = self.file("bad.obj", objects.to_bytes([2, 1, 1, 0x101, 1, 1, 3, 100, 0, 0]))

@@ -3,33 +3,13 @@
 import os
 import random
 import unittest
+from unittest import mock
 
-import names
+import chip as chips
 import objects
 import permits
-from common import Case, examples, program
-
-POWERS = [9, 10, 62, 1, 6]
-
-
-def reach_of(found, node):
-    """The text of a reach, by the records: of each member the first path and the first reason."""
-    ways, lines = permits.paths(found, node), []
-    for master in permits.masters(found):
-        path = next((way for way in ways if way[-1] == master), None)
-        if path:
-            why = permits.leads(found, *path[-2:])[0].why if len(path) > 1 else "self"
-            lines.append(["master", master, why, *path])
-    members = [("slave", names.slaves()), ("power", sorted(POWERS)), ("line", sorted(names.NODES))]
-    for kind, numbers in members:
-        for number in numbers:
-            for path in ways:
-                reasons = permits.brings(found, path[-1], kind, number)
-                if reasons:
-                    lines.append([kind, number, reasons[0].why, *path])
-                    break
-    return [" ".join(map(str, line)) for line in lines]
-
+import reached
+from common import Case, example, examples, program
 
 def random_words(chance):
     """The words of an object in which few permissions are given, by chance."""
@@ -46,17 +26,24 @@ def random_words(chance):
 
 
 class Permits(Case):
-    def check(self, path):
-        found = objects.load(path)
-        for node in permits.masters(found):
-            status, text, _ = program("reach", path, str(node))
+    def check(self, path, source=None):
+        """The reach of each master by the records is the text of the program, over a topology."""
+        board = chips.Board(objects.load(path), chips.read(source))
+        for node in permits.masters(board):
+            status, text, _ = program("reach", path, str(node), *board.chip.words())
             self.assertEqual(status, 0)
-            self.assertEqual(reach_of(found, node), text.decode().splitlines(), f"of {node}: {found}")
+            found = list(map(str, permits.reach(board, node)))
+            self.assertEqual(found, text.decode().splitlines(), f"of {node}: {board.found}")
 
     def test_the_reach_of_each_example(self):
         for path in examples(".obj"):
             with self.subTest(os.path.basename(path)):
                 self.check(path)
+
+    def test_the_reach_over_the_published_lines_of_one_unit(self):
+        with mock.patch.dict(reached.EFFECTS, clear=True):
+            self.check(example("three-masters.obj"), chips.PUBLISHED)
+            self.check(example("pm_cfg_obj.obj"), chips.PUBLISHED)
 
     def test_the_reach_of_objects_by_chance(self):
         chance = random.Random(32)
@@ -66,8 +53,8 @@ class Permits(Case):
     def test_all_reasons_of_a_step(self):
         words = [2, 5, 1, 0x101, 2, 1, 1, 100, 2, 2, 7, 2, 100, 0, 0, 0x102, 2, 33, 1, 3, 15, 1, 2]
         words += [0x104, 2, 62, 1, 7, 1, 0x105, 2, 7, 1, 33, 1, 0x107, 1, 1]
-        found = objects.decode(objects.to_bytes(words))
-        reasons = permits.leads(found, 1, 7)
+        board = chips.Board(objects.decode(objects.to_bytes(words)), chips.read())
+        reasons = permits.leads(board, 1, 7)
         self.assertEqual(
             [(reason.why, str(reason.record)) for reason in reasons],
             [
@@ -81,10 +68,10 @@ class Permits(Case):
         )
         self.assertEqual(reasons[2].detail, "LPD is above processor RPU_0 and above UART_0, TCM_0_A, which RPU_0 may use")
         self.assertEqual(reasons[3].detail, "it is a processor of RPU_0")
-        self.assertEqual([reason.why for reason in permits.brings(found, 1, "slave", 33)], ["use", "force", "reset"])
-        self.assertEqual([reason.why for reason in permits.brings(found, 7, "slave", 33)], ["use"])
-        self.assertEqual(permits.leads(found, 7, 1), [])
-        self.assertEqual(permits.paths(found, 1), [[1], [1, 7]])
+        self.assertEqual([reason.why for reason in permits.brings(board, 1, "slave", 33)], ["use", "force", "reset"])
+        self.assertEqual([reason.why for reason in permits.brings(board, 7, "slave", 33)], ["use"])
+        self.assertEqual(permits.leads(board, 7, 1), [])
+        self.assertEqual(permits.paths(board, 1), [(1,), (1, 7)])
 
 
 if __name__ == "__main__":

@@ -3,8 +3,10 @@
 import os
 import unittest
 
-from common import Case, examples, program, view
-from forms import BROKEN
+import names
+import permits
+from common import JUDGED, Case, board_of, examples, program, view
+from forms import BROKEN, NOT_JUDGED
 
 TEXT = """header
 section masters
@@ -19,10 +21,11 @@ section power
 power 6 4
 section reset
 reset 34 2
-reset 1035 6
+reset 62 6
 """
 
-UNJUDGED = "records not judged: 1, of what the table of the chip lacks; ./pmu lint names them"
+UNJUDGED = ["not judged: reset 62 6 (byte 156): RPU_0, RPU_1 may reset line_62"]
+COUNT = "records not judged: 1; allowed: 0"
 
 
 class Policy(Case):
@@ -35,15 +38,15 @@ class Policy(Case):
     def judge(self, rules, path=None):
         """The exit, and the lines."""
         status, output, errors = view("policy", path or self.path, self.file("rules", rules))
-        self.assertEqual(errors, b"", rules)
+        self.assertFalse([line for line in errors.splitlines() if not line.startswith(JUDGED)], rules)
         return status, output.decode().replace(self.file("rules", rules), "FILE").splitlines()
 
     def test_rules_that_hold(self):
         rules = "# apart\n\nnever RPU_0 master APU  # at all\nnever RPU_0 slave UART_0\nonly RPU_1 master APU\n"
         rules += "never RPU_0 power FPD\nnever 7 line 0x21\nonly NODE_RPU_0 power PLD\r\nnever RPU_0 slave PL\n"
         status, lines = self.judge(rules)
-        self.assertEqual(lines, ["7 of 7 rules hold", UNJUDGED])
-        self.assertEqual(status, 0)
+        self.assertEqual(lines, [*UNJUDGED, "7 of 7 rules hold", COUNT])
+        self.assertEqual(status, NOT_JUDGED)
 
     def test_a_rule_of_each_kind_that_is_broken(self):
         word = "suspend: master 1 1 100 2 0 (byte 20): its suspend word has the bit of RPU_0"
@@ -53,7 +56,7 @@ class Policy(Case):
         for rule, step, reasons in [
             ("never APU master RPU_0", "APU > RPU_0", [word]),
             ("never RPU_0 slave UART_1", "RPU_0 > slave UART_1", [use, reset]),
-            ("never RPU_0 line UART_1", "RPU_0 > line UART_1", [reset]),
+            ("never RPU_0 line UART_1", "RPU_0 > line UART_1", ["reset: reset 34 2 (byte 148): its mask has the bit of RPU_0"]),
             ("never APU power FPD", "APU > power FPD", [above]),
         ]:
             with self.subTest(rule):
@@ -61,8 +64,8 @@ class Policy(Case):
                 self.assertEqual(status, BROKEN)
                 self.assertEqual(lines[:2], [f"FILE:1: {rule}: broken by {rule.split()[1]}", f"  {step}"])
                 for reason in reasons:
-                    self.assertIn(f"  {step}: {reason}", lines[2:-2])
-                self.assertEqual(lines[-2:], ["0 of 1 rules hold", UNJUDGED])
+                    self.assertIn(f"  {step}: {reason}", lines[2:-3])
+                self.assertEqual(lines[-3:], [*UNJUDGED, "0 of 1 rules hold", COUNT])
 
     def test_each_path_and_each_record_of_a_breach(self):
         status, lines = self.judge("never RPU_1 slave TCM_0_A\nnever RPU_0 master APU\nnever RPU_1 slave TCM_0_A\n")
@@ -85,8 +88,9 @@ class Policy(Case):
                 "  RPU_0 > slave TCM_0_A: use: slave 15 0 2 (byte 112): its mask has the bit of RPU_0",
                 "  RPU_1 > APU: suspend: master 8 4 100 1 0 (byte 60): its suspend word has the bit of APU",
                 "  APU > RPU_0: suspend: master 1 1 100 2 0 (byte 20): its suspend word has the bit of RPU_0",
+                *UNJUDGED,
                 "1 of 3 rules hold",
-                UNJUDGED,
+                COUNT,
             ],
         )
 
@@ -96,29 +100,66 @@ class Policy(Case):
         broken = [line for line in lines if "broken by" in line]
         self.assertEqual(broken, ["FILE:1: only APU slave UART_0: broken by RPU_1", "FILE:2: only RPU_1 slave UART_0: broken by APU"])
         # (a master is in its own reach: that breaks no rule)
-        self.assertEqual(self.judge("only RPU_1 master APU\n")[0], 0)
+        self.assertEqual(self.judge("only RPU_1 master APU\nallow * line_62\n")[0], 0)
         self.assertEqual(self.judge("only RPU_0 master APU\n")[1][0], "FILE:1: only RPU_0 master APU: broken by RPU_1")
 
     def test_each_member_of_each_reach_of_the_examples_breaks_its_rule(self):
         for path in examples(".obj"):
             with self.subTest(os.path.basename(path)):
-                status, text, _ = program("reach", path, "1")
-                self.assertEqual(status, 0)
-                members = [line.split() for line in text.decode().splitlines()]
-                members = [(kind, unit) for kind, unit, *_ in members if (kind, unit) != ("master", "1")]
+                board = board_of(path)
+                members = [(member.kind, member.number) for member in permits.reach(board, 1) if member.why != "self"]
                 status, lines = self.judge("".join(f"never 1 {kind} {unit}\n" for kind, unit in members), path)
                 broken = [line for line in lines if line.endswith(": broken by APU")]
                 self.assertEqual((status, len(broken)), (BROKEN, len(members)))
-                beyond = [slave for slave in range(11, 70) if ("slave", str(slave)) not in members and slave != 62]
+                beyond = [slave for slave in board.chip.of_kind("slave") if ("slave", slave) not in members]
                 if beyond:
-                    status, lines = self.judge("".join(f"never 1 slave {slave}\n" for slave in beyond), path)
+                    rules = "allow * *\n" + "".join(f"never 1 slave {slave}\n" for slave in beyond)
+                    status, lines = self.judge(rules, path)
                     self.assertEqual((status, lines[0]), (0, f"{len(beyond)} of {len(beyond)} rules hold"))
+
+    def test_the_lines_of_several_units_break_rules(self):
+        text = "header\nsection masters\nmaster 1 1 100 0 0\nmaster 7 2 100 0 0\nsection slaves\nslave 15 0 2\nsection reset\n"
+        for line, rule in [
+            ("RESET_RPU_LS", "never APU master RPU_0"),
+            ("RESET_SOFT", "never APU slave UART_0"),
+            ("RESET_PS_ONLY", "never APU master RPU_0"),
+            ("RESET_RPU_LS", "only RPU_0 slave TCM_0_A"),
+            ("RESET_FPD", "never APU slave DDR"),
+        ]:
+            number = names.number_of("line", line)
+            path = self.file("line.obj", program("build", self.file("line.txt", text + f"reset {number} 1\n"))[1])
+            self.assertEqual(self.judge(f"{rule}\n", path)[0], BROKEN, line)
+            self.assertEqual(self.judge("never APU slave PL\n", path)[0], BROKEN if line == "RESET_SOFT" else 0)
+
+    def test_what_is_not_judged_ends_in_its_own_status_unless_it_is_allowed(self):
+        text = "header\nsection masters\nmaster 1 1 100 0 0\nmaster 7 2 100 0 0\nsection slaves\nslave 70 1 3\nsection power\n"
+        text += "power 33 1\nsection reset\nreset 1004 2\nreset 1081 1\nreset 1082 0\nreset 1034 1\n"
+        path = self.file("line.obj", program("build", self.file("line.txt", text))[1])
+        rule = "never RPU_0 slave UART_0\n"
+        left = [
+            "not judged: slave 70 1 3 (byte 68): APU, RPU_0 may use GEM_TSU",
+            "not judged: power 33 1 (byte 88): APU may force UART_0",
+            "not judged: reset 1004 2 (byte 104): RPU_0 may reset RESET_SWDT_CRF",
+            "not judged: reset 1081 1 (byte 112): APU may reset RESET_GPO3_PL_0",
+        ]
+        self.assertEqual(self.judge(rule, path), (NOT_JUDGED, [*left, "1 of 1 rules hold", "records not judged: 4; allowed: 0"]))
+        some = rule + "allow APU GEM_TSU\nallow RPU_0 RESET_SWDT_*\nallow RPU_0 1081\n"
+        left[0] = left[0].replace("APU, RPU_0", "RPU_0")
+        del left[2]
+        self.assertEqual(self.judge(some, path), (NOT_JUDGED, [*left, "1 of 1 rules hold", "records not judged: 3; allowed: 1"]))
+        every = some + "allow RPU_0 70\nallow APU UART_0\nallow * RESET_GPO3_PL_?\n"
+        self.assertEqual(self.judge(every, path), (0, ["1 of 1 rules hold", "records not judged: 0; allowed: 4"]))
+        self.assertEqual(self.judge(every + "never APU slave UART_0\n", path)[0], BROKEN)
 
     def test_bad_rules(self):
         for rules, message in [
             ("", "rules: no rule is in it"),
             ("# none\n", "rules: no rule is in it"),
-            ("\nnever APU UART_1\n", "rules:2: a rule is never MASTER KIND UNIT or only MASTER KIND UNIT, and KIND is master, slave, power, line"),
+            ("allow * *\n", "rules: no rule is in it"),
+            ("allow RPU *\n", "rules:1: the object has no master RPU"),
+            ("allow APU\n", "rules:1: a rule is "),
+            ("never APU slave 99999999999999999999\n", "rules:1: the table of the chip has no slave 9999"),
+            ("\nnever APU UART_1\n", "rules:2: a rule is never MASTER KIND UNIT, only MASTER KIND UNIT or allow MASTER WHAT, and KIND is master, slave, power, line"),
             ("always APU slave UART_1\n", "rules:1: a rule is "),
             ("never APU proc APU_0\n", "rules:1: a rule is "),
             ("never APU slave UART_1 UART_0\n", "rules:1: a rule is "),
@@ -138,8 +179,8 @@ class Policy(Case):
                 self.assertIn("/" + message, self.refused("policy", self.path, self.file("rules", rules)))
 
     def test_bad_use(self):
-        for words in ([], ["a"], ["a", "b", "c"]):
-            self.assertEqual(self.refused("policy", *words), "pmu: usage: ./pmu policy OBJ FILE")
+        for words in ([], ["a"], ["a", "b", "c", "d"]):
+            self.assertEqual(self.refused("policy", *words), "pmu: usage: ./pmu policy OBJ FILE [TOPO]")
         self.assertIn("No such file", self.refused("policy", self.path, self.path + ".none"))
         self.assertEqual(view("policy", self.file("bad.obj", b"abc"), "none")[:2], (2, b"fault object 1 0\n"))
 

@@ -10,7 +10,7 @@ MASKS = {1: 256, 7: 1}
 class Split(unittest.TestCase):
     def check(self, script, wanted):
         """Wanted are the lines for each line."""
-        cores, numbers = split.split(script, MASKS)
+        cores, numbers = split.split(script, MASKS, (2, 3, 4, 5))
         found = [[core for core, number in zip(cores, numbers) if number == k] for k in range(1, len(script) + 1)]
         self.assertEqual(found, wanted)
         self.assertEqual(numbers, sorted(numbers))

@@ -2,6 +2,7 @@
 
 import unittest
 
+import chip as chips
 import steps
 from common import Case, example, program
 
@@ -49,7 +50,7 @@ SCRIPTS = {
 class Steps(Case):
     def values(self, obj, content):
         """After each step the values that aren't 0."""
-        told, values, after = steps.steps_of(obj, content, self._room.name), {}, []
+        told, values, after = steps.steps_of(obj, chips.read(), content, self._room.name), {}, []
         for step in told.changes:
             values.update(step)
             after.append({unit: value for unit, value in values.items() if value})
