@@ -6,6 +6,7 @@ use Rattle.pm_base.specs.declared.events.Event.{Event}
 use Rattle.pm_base.specs.declared.events.Event.TheVariants.{Pass}
 use Rattle.pm_io.specs.Inputs.{Moment}
 use Rattle.pm_io.specs.Readings.{Meanwhile}
+use Rattle.pm_io.proofs.ReadingsLemmas.{meanwhile_map}
 use Rattle.pm_object.specs.declared.attached.Attached.{Attached}
 use Rattle.pm_block.specs.declared.block.Piece.{Piece}
 use Rattle.pm_block.specs.Pieces.{attached_in}
@@ -18,7 +19,7 @@ use Rattle.pm_reader.specs.declared.follow.LineStop.TheVariants as stops
 use Rattle.pm_reader.specs.declared.follow.LinesEnd.{LinesEnd}
 use Rattle.pm_reader.specs.declared.reader.Taken.{Taken}
 use Rattle.pm_reader.specs.declared.reader.Taken.TheVariants as taken
-use Rattle.pm_reader.specs.Follow.{FollowedInput, Following, GoesThrough, IsBrokenOff, OfScript}
+use Rattle.pm_reader.specs.Follow.{FollowedInput, Following, GoesThrough, IsBrokenOff, OfScript, script_given}
 use Rattle.pm_reader.specs.Front.{Ahead, Attaches, ReadAhead, ahead_of}
 use Rattle.pm_reader.specs.Reader.{Held}
 use Rattle.pm_reader.proofs.Named.{of_more}
@@ -33,12 +34,18 @@ idle_through n [] = refl
 idle_through n (event ∷ events) = (tt, tt, idle_through (n + 1) events)
 
 module _ (shown : Type 0) (id : ℕ) (ahead : Ahead) (now : Moment) (failed : Failed) where
+  -- in what is read in the end, and in what was given so far
   abbrev AttachesAhead : Type 0
-  AttachesAhead = OfScript shown id ahead.first (λ s. attached_by s.events ≡ ahead.attached)
+  AttachesAhead =
+      OfScript shown id ahead.first (λ s. attached_by s.events ≡ ahead.attached)
+      × Meanwhile ahead.first now (λ calls. attached_by (script_given id calls).events ≡ ahead.attached)
 
   -- whoever follows the script, it attaches that
   of_followed : (result : Result LinesEnd LineStop) → FollowedInput Idle shown id ahead now tt tt result → AttachesAhead
-  of_followed result did = of_more shown id ahead.first _ (λ s. attached_by s.events ≡ ahead.attached) (λ s both. both.0) did.followed
+  of_followed result did = (
+    of_more shown id ahead.first _ (λ s. attached_by s.events ≡ ahead.attached) (λ s both. both.0) did.followed,
+    meanwhile_map ahead.first now _ (λ calls. attached_by (script_given id calls).events ≡ ahead.attached) (λ calls both. both.0) did.given,
+  )
 
   module _ (front n : ℕ) (line : List ℕ) (reader : Held) where
     by_line : (meant : Result Event LineFault) → meant ≡ meaning line → Stands Idle shown id ahead front tt now n tt taken.Line line reader → AttachesAhead
@@ -52,10 +59,17 @@ module _ (shown : Type 0) (id : ℕ) (ahead : Ahead) (now : Moment) (failed : Fa
     by_answer taken.Over s = of_followed _ (stands_over Idle shown id ahead tt front n now tt line reader s)
     by_answer taken.Fault s = of_followed _ (stands_fault Idle shown id ahead tt front n now tt line reader s)
 
-  pub front_script : (front : Front) → Attaches shown id ahead now front → AttachesAhead
-  front_script front a =
+  front_attaches : (front : Front) → Attaches shown id ahead now front → AttachesAhead
+  front_attaches front a =
       by_answer front.lines front.lines front.line.items front.reader front.taken
       (stands_first Idle shown id ahead tt front now tt a (idle_through 1 (replicate front.lines Pass)))
+
+  pub front_script : (front : Front) → Attaches shown id ahead now front → OfScript shown id ahead.first (λ s. attached_by s.events ≡ ahead.attached)
+  front_script front a = (front_attaches front a).0
+
+  -- the same of what was given so far
+  pub front_given : (front : Front) → Attaches shown id ahead now front → Meanwhile ahead.first now (λ calls. attached_by (script_given id calls).events ≡ ahead.attached)
+  front_given front a = (front_attaches front a).1
 
 -- what was read ahead attaches what its pieces spell
 pub attaches_by : (shown : Type 0) (id : ℕ) (first now : Moment) (block : List Piece) (front : Front) (read : ReadAhead shown id first now block front) (attached : List Attached)

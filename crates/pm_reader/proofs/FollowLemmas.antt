@@ -1,6 +1,6 @@
 -- Lines that are taken and followed, one more at a time.
-use Rattle.std.proofs.Common.{◌≡◌, ℕ, ◌+◌, ◌<◌, ◌≤◌, true, false, List, [], ◌∷◌, ◌++◌, length, take, drop, position, Some, None, Option, Result, Ok, Err, refl, sym, ◌∙◌, ap, subst, arith, inl, inr, get_or}
-use Rattle.std.specs.Prelude.{IfOk}
+use Rattle.std.proofs.Common.{◌≡◌, ℕ, ◌+◌, ◌<◌, ◌≤◌, Bool, true, false, List, [], ◌∷◌, ◌++◌, length, take, drop, position, Some, None, Option, Result, Ok, Err, refl, sym, ◌∙◌, ap, subst, arith, inl, inr, get_or}
+use Rattle.std.specs.Prelude.{IfOk, ⊤}
 use Rattle.std.proofs.lemmas.Bool.{cases_lt}
 use Rattle.std.proofs.lemmas.Bool.Decides.{nat_tests}
 use Rattle.std.proofs.lemmas.List.{append-nil, get_or-take, length-append, length-take-le, take-append-le}
@@ -13,9 +13,11 @@ use Rattle.pm_io.specs.declared.prefix.StopReason.TheVariants as reason
 use Rattle.pm_base.specs.Faults.{Rose}
 use Rattle.pm_io.specs.Inputs.{IsStuck, Moment, Took}
 use Rattle.pm_io.specs.Lines.{least_length, lines}
-use Rattle.pm_io.specs.Calls.{Comes}
-use Rattle.pm_io.specs.Prefix.{text_of}
+use Rattle.pm_io.specs.Calls.{Call, Comes}
+use Rattle.pm_io.specs.Given.{Gave, prefix_given, stop_by}
+use Rattle.pm_io.specs.Prefix.{Prefix, text_of}
 use Rattle.pm_io.specs.Readings.{Meanwhile}
+use Rattle.pm_io.proofs.ReadingsLemmas.{meanwhile_map}
 use Rattle.pm_io.proofs.LinesLemmas as parts
 use Rattle.pm_script.specs.declared.meaning.LineFault.{LineFault}
 use Rattle.pm_script.specs.declared.meaning.LineFault.TheVariants.{Long}
@@ -29,8 +31,8 @@ use Rattle.pm_reader.specs.declared.follow.LineStop.TheVariants as stops
 use Rattle.pm_reader.specs.declared.follow.LinesEnd.{LinesEnd}
 use Rattle.pm_reader.specs.declared.reader.Taken.{Taken}
 use Rattle.pm_reader.specs.declared.reader.Taken.TheVariants as taken
-use Rattle.pm_reader.specs.Follow.{Followed, FollowedOne, Following, OfScript}
-use Rattle.pm_reader.specs.Reader.{Grows, HasRead, Held, KnowsEnd, Turn, is_feed, within, within_limit}
+use Rattle.pm_reader.specs.Follow.{Followed, FollowedOne, Following, OfScript, script_given}
+use Rattle.pm_reader.specs.Reader.{GaveOn, Grows, HasRead, Held, KnowsEnd, Turn, is_feed, within, within_limit}
 use Rattle.pm_reader.specs.Reader as reader
 use Rattle.pm_reader.proofs.HeldLemmas.{no_feed_at, within_all}
 use Rattle.pm_reader.proofs.ScriptLemmas.{Gives, IsBad, IsOver}
@@ -38,6 +40,7 @@ use Rattle.pm_reader.proofs.ScriptLemmas as scripts
 use Rattle.pm_reader.proofs.TookLemmas.{Took-trans}
 use Rattle.pm_reader.specs.Way.{Answered, Way}
 use Rattle.pm_reader.proofs.GoesOn.{goes_on_line, goes_on_read}
+use Rattle.pm_reader.proofs.GivenLemmas.{given_stop, given_text, stop_ended, stop_open, stop_over, way_gave}
 use Rattle.pm_reader.proofs.Future.{Future, FutureAt, future, future_ended, future_fault, future_over}
 
 -- ---- lines by what is held
@@ -127,10 +130,11 @@ module _ {F : Type 0} (Follows : Following F) (Goal : Script → F → Result Li
   HasLine n line now all later ending = (stop : Stop) → UnderWay n (lines ending all) (line ∷ lines ending later) stop now
 
 -- more was read
-pub Way-read : (S : List ℕ → List ℕ → Ending → Type 0) (shown : Type 0) (id n : ℕ) (first mid now : Moment) (old held : Held) (got : List ℕ) → Way S shown id n first mid old → Took shown id got mid now → Grows old got held → Way S shown id n first now held
-Way-read S shown id n first mid now old held got way took grows = record {
+pub Way-read : (S : List ℕ → List ℕ → Ending → Type 0) (shown : Type 0) (id n : ℕ) (first mid now : Moment) (old held : Held) (got : List ℕ) → Way S shown id n first mid old → Took shown id got mid now → GaveOn id got old.ended held.ended mid now → Grows old got held → Way S shown id n first now held
+Way-read S shown id n first mid now old held got way took gave grows = record {
   taken = way.taken ++ got;
   took = Took-trans shown id way.taken got first mid now way.took took;
+  gave = way_gave id way.taken got old.ended held.ended first mid now way.gave gave;
   credit = omega (arith, way.credit, grows.credit, length-append way.taken got);
   goes_on = goes_on_read S old held way.taken got way.goes_on grows;
   count = (let size : length held.bytes ≡ length (old.bytes ++ got) = ap (λ (xs : List ℕ). length xs) grows.bytes in omega (arith, way.count, size, length-append old.bytes got, length-append way.taken got));
@@ -147,11 +151,16 @@ pub same_credit : (held new : Held) (line : List ℕ) → reader.Gives held take
 same_credit held new line (inl gave) = gave.credit
 same_credit held new line (inr gave) = ap (λ (h : Held). h.credit) gave.new_is
 
+same_end : (held new : Held) (line : List ℕ) → reader.Gives held taken.Line line new → new.ended ≡ held.ended
+same_end held new line (inl gave) = gave.ended
+same_end held new line (inr gave) = ap (λ (h : Held). h.ended) gave.new_is
+
 -- a line was taken
 pub Way-line : (S T : List ℕ → List ℕ → Ending → Type 0) (shown : Type 0) (id n : ℕ) (first now : Moment) (held new : Held) (line : List ℕ) → ((all left later : List ℕ) (ending : Ending) → lines ending left ≡ line ∷ lines ending later → S all left ending → T all later ending) → Way S shown id n first now held → reader.Gives held taken.Line line new → Way T shown id (n + 1) first now new
 Way-line S T shown id n first now held new line step way gives = record {
   taken = way.taken;
   took = way.took;
+  gave = subst (λ (e : Bool). Meanwhile first now (Gave id way.taken e)) (sym (same_end held new line gives)) way.gave;
   credit = omega (arith, same_credit held new line gives, way.credit);
   goes_on = goes_on_line S T held new way.taken line step way.goes_on gives;
   count = omega (arith, fewer held new line gives, way.count);
@@ -162,6 +171,7 @@ pub Way-map : (S T : List ℕ → List ℕ → Ending → Type 0) (shown : Type 
 Way-map S T shown id n first now held step way = record {
   taken = way.taken;
   took = way.took;
+  gave = way.gave;
   credit = way.credit;
   goes_on = λ more ending on. step (within_limit held.credit way.taken ++ more) (within held ++ more) ending (way.goes_on more ending on);
   count = way.count;
@@ -177,7 +187,7 @@ answered S shown id n first now later old new answer line way so_far turn knows 
     let sooner : first.faults ≤ now.faults = way.took.later in
     record {
       held = turn.held;
-      way = Way-read S shown id n first now later old turn.held turn.got way turn.took turn.grows;
+      way = Way-read S shown id n first now later old turn.held turn.got way turn.took turn.gave turn.grows;
       gives = turn.gives;
       knows = knows;
       stuck = stuck;
@@ -208,17 +218,20 @@ module _ {F : Type 0} (Follows : Following F) (Goal : Script → F → Result Li
   -- all lines were followed so, and nothing else was seen
   pub record Ends (now : Moment) (then : F) (result : Result LinesEnd LineStop) : Type 0 where
     pub followed : OfScript shown id first (λ s. Goal s then result)
+    pub given : Meanwhile first now (λ calls. Goal (script_given id calls) then result)
     pub ends : IfOk result (λ end. end.stop ≡ reason.Unbegun → ⊥)
     pub fault : IfOk result (λ end. end.stop ≡ reason.Failure → Rose first.faults now.faults)
 
-  settle : (S : List ℕ → List ℕ → Ending → Type 0) (n : ℕ) (now : Moment) (held : Held) (then : F) (result : Result LinesEnd LineStop) (way : Way S shown id n first now held) (future : Future shown (first.input id) held way.taken) → (S (text_of future.prefix) (within held ++ future.more) (ending_of future.prefix.stop) → Goal (script_from (script_lines future.prefix) (stop_of future.prefix.stop)) then result) → IfOk result (λ end. end.stop ≡ reason.Unbegun → ⊥) → IfOk result (λ end. end.stop ≡ reason.Failure → Rose first.faults now.faults) → Ends now then result
-  settle S n now held then result way future followed ends fault = record {
+  settle : (S : List ℕ → List ℕ → Ending → Type 0) (Fits : Prefix → List ℕ → Type 0) (n : ℕ) (now : Moment) (held : Held) (then : F) (result : Result LinesEnd LineStop) (way : Way S shown id n first now held) (future : Future shown (first.input id) held way.taken) → Fits future.prefix future.more → ((calls : List Call) → Gave id way.taken held.ended calls → Fits (prefix_given script_limit id calls) []) → ((p : Prefix) (more : List ℕ) → Fits p more → S (text_of p) (within held ++ more) (ending_of p.stop) → Goal (script_from (script_lines p) (stop_of p.stop)) then result) → IfOk result (λ end. end.stop ≡ reason.Unbegun → ⊥) → IfOk result (λ end. end.stop ≡ reason.Failure → Rose first.faults now.faults) → Ends now then result
+  settle S Fits n now held then result way future fits given_fits followed ends fault = record {
     followed = record {
       prefix = future.prefix;
       begun = future.begun;
       is = future.is;
-      holds = followed (subst (λ (text : List ℕ). S text (within held ++ future.more) (ending_of future.prefix.stop)) (sym future.text) (way.goes_on future.more (ending_of future.prefix.stop) future.may));
+      holds = followed future.prefix future.more fits (subst (λ (text : List ℕ). S text (within held ++ future.more) (ending_of future.prefix.stop)) (sym future.text) (way.goes_on future.more (ending_of future.prefix.stop) future.may));
     };
+    given = meanwhile_map first now (Gave id way.taken held.ended) (λ calls. Goal (script_given id calls) then result)
+        (λ calls gave. followed (prefix_given script_limit id calls) [] (given_fits calls gave) (given_text S id held way.taken calls way.credit way.goes_on gave)) way.gave;
     ends = ends;
     fault = fault;
   }
@@ -226,21 +239,19 @@ module _ {F : Type 0} (Follows : Following F) (Goal : Script → F → Result Li
   -- a line was taken that has no meaning
   pub ends_bad : (n : ℕ) (now : Moment) (held : Held) (line : List ℕ) (at : F) (meant : Result Event LineFault) (cause : LineFault) → meant ≡ meaning line → meant ≡ Err cause → KnowsEnd shown id held now → Way (HasLine Follows Goal front pieces n line at) shown id (n + 1) first now held → Ends now at (Err (stops.Bad (n + 1) cause))
   ends_bad n now held line at meant cause means is knows way =
-      let to_come = future shown id first now held way.taken way.took way.credit knows in
-      let ending = ending_of to_come.prefix.stop in
-      let later = lines ending (within held ++ to_come.more) in
-      settle (HasLine Follows Goal front pieces n line at) (n + 1) now held at (Err (stops.Bad (n + 1) cause)) way to_come
-      (λ so_far. bad Follows Goal front pieces n (script_lines to_come.prefix) (line ∷ later) (stop_of to_come.prefix.stop) at cause (scripts.bad_line (line ∷ later) line later meant cause refl means is) (so_far (stop_of to_come.prefix.stop)))
+      settle (HasLine Follows Goal front pieces n line at) (λ p more. ⊤) (n + 1) now held at (Err (stops.Bad (n + 1) cause)) way (future shown id first now held way.taken way.took way.credit knows) tt (λ calls gave. tt)
+      (λ p more fits so_far.
+      let later = lines (ending_of p.stop) (within held ++ more) in
+      bad Follows Goal front pieces n (script_lines p) (line ∷ later) (stop_of p.stop) at cause (scripts.bad_line (line ∷ later) line later meant cause refl means is) (so_far (stop_of p.stop)))
       tt tt
 
   -- the follower failed at a line
   pub ends_broken : (n : ℕ) (now : Moment) (held : Held) (line : List ℕ) (at then : F) (meant : Result Event LineFault) (event : Event) (why : LineStop) → meant ≡ meaning line → meant ≡ Ok event → (n ≡ front → IsOther pieces line) → FollowedOne Follows (n + 1) event at then (Err why) → KnowsEnd shown id held now → Way (HasLine Follows Goal front pieces n line at) shown id (n + 1) first now held → Ends now then (Err why)
   ends_broken n now held line at then meant event why means is other one knows way =
-      let to_come = future shown id first now held way.taken way.took way.credit knows in
-      let ending = ending_of to_come.prefix.stop in
-      let later = lines ending (within held ++ to_come.more) in
-      settle (HasLine Follows Goal front pieces n line at) (n + 1) now held then (Err why) way to_come
-      (λ so_far. broken Follows Goal front pieces n (script_lines to_come.prefix) (line ∷ later) later (stop_of to_come.prefix.stop) at then event why (scripts.good_line (line ∷ later) line later meant event refl means is) (λ start. other start event (sym means ∙ is)) one (so_far (stop_of to_come.prefix.stop)))
+      settle (HasLine Follows Goal front pieces n line at) (λ p more. ⊤) (n + 1) now held then (Err why) way (future shown id first now held way.taken way.took way.credit knows) tt (λ calls gave. tt)
+      (λ p more fits so_far.
+      let later = lines (ending_of p.stop) (within held ++ more) in
+      broken Follows Goal front pieces n (script_lines p) (line ∷ later) later (stop_of p.stop) at then event why (scripts.good_line (line ∷ later) line later meant event refl means is) (λ start. other start event (sym means ∙ is)) one (so_far (stop_of p.stop)))
       tt tt
 
   module _ (n : ℕ) (now : Moment) (held new : Held) (line : List ℕ) (at : F) (on : Way (OnWay Follows Goal front pieces n at) shown id n first now held) where
@@ -248,13 +259,12 @@ module _ {F : Type 0} (Follows : Following F) (Goal : Script → F → Result Li
     pub ends_long : reader.Gives held taken.Long line new → KnowsEnd shown id new now → Ends now at (Err (stops.Bad (n + 1) Long))
     ends_long gives knows =
         let known : KnowsEnd shown id held now = subst (λ (h : Held). KnowsEnd shown id h now) gives.2 knows in
-        let to_come = future shown id first now held on.taken on.took on.credit known in
-        let ending = ending_of to_come.prefix.stop in
-        let text : List ℕ = within held ++ to_come.more in
-        let many : 256 ≤ length text = omega (arith, gives.0, length-append (within held) to_come.more) in
-        let none : position is_feed (take 256 text) ≡ None = subst (λ (xs : List ℕ). position is_feed xs ≡ None) (sym (take-append-le 256 (within held) to_come.more gives.0)) gives.1 in
-        settle (OnWay Follows Goal front pieces n at) n now held at (Err (stops.Bad (n + 1) Long)) on to_come
-        (λ so_far. bad Follows Goal front pieces n (script_lines to_come.prefix) (lines ending text) (stop_of to_come.prefix.stop) at Long (long_first ending text many none) (so_far (stop_of to_come.prefix.stop)))
+        settle (OnWay Follows Goal front pieces n at) (λ p more. ⊤) n now held at (Err (stops.Bad (n + 1) Long)) on (future shown id first now held on.taken on.took on.credit known) tt (λ calls gave. tt)
+        (λ p more fits so_far.
+        let text : List ℕ = within held ++ more in
+        let many : 256 ≤ length text = omega (arith, gives.0, length-append (within held) more) in
+        let none : position is_feed (take 256 text) ≡ None = subst (λ (xs : List ℕ). position is_feed xs ≡ None) (sym (take-append-le 256 (within held) more gives.0)) gives.1 in
+        bad Follows Goal front pieces n (script_lines p) (lines (ending_of p.stop) text) (stop_of p.stop) at Long (long_first (ending_of p.stop) text many none) (so_far (stop_of p.stop)))
         tt tt
 
     -- no line is left, and the reading ends so
@@ -267,10 +277,11 @@ module _ {F : Type 0} (Follows : Following F) (Goal : Script → F → Result Li
         subst (λ (w : StopReason). Goal (script_from (lines (ending_of r) all) (stop_of r)) at (Ok (record { count = n; stop = w }))) is
         (done Follows Goal front pieces n (lines (ending_of r) all) (lines (ending_of r) (left ++ more)) r at over_ (so_far (stop_of r)))
 
-    ends_done : (why : StopReason) (last : FutureAt shown (first.input id) held on.taken why) → IsOver (lines (ending_of why) (within held)) → (why ≡ reason.Unbegun → ⊥) → (why ≡ reason.Failure → Rose first.faults now.faults) → Ends now at (Ok (record { count = n; stop = why }))
-    ends_done why last none begun fault =
-        settle (OnWay Follows Goal front pieces n at) n now held at (Ok (record { count = n; stop = why })) on last.future
-        (λ so_far. done_at last.future.prefix.stop why (text_of last.future.prefix) (within held) last.future.more last.stops last.none none so_far)
+    ends_done : (why : StopReason) (last : FutureAt shown (first.input id) held on.taken why) → stop_by held.ended script_limit on.taken ≡ why → IsOver (lines (ending_of why) (within held)) → (why ≡ reason.Unbegun → ⊥) → (why ≡ reason.Failure → Rose first.faults now.faults) → Ends now at (Ok (record { count = n; stop = why }))
+    ends_done why last by none begun fault =
+        settle (OnWay Follows Goal front pieces n at) (λ p more. (p.stop ≡ why) × (more ≡ [])) n now held at (Ok (record { count = n; stop = why })) on last.future (last.stops, last.none)
+        (λ calls gave. (given_stop id held on.taken calls gave ∙ by, refl))
+        (λ p more fits so_far. done_at p.stop why (text_of p) (within held) more fits.0 fits.1 none so_far)
         begun fault
 
     pub ends_end : reader.Gives held taken.End line new → KnowsEnd shown id new now → Ends now at (Ok (record { count = n; stop = reason.End }))
@@ -278,17 +289,17 @@ module _ {F : Type 0} (Follows : Following F) (Goal : Script → F → Result Li
         let known : KnowsEnd shown id held now = subst (λ (h : Held). KnowsEnd shown id h now) gives.3 knows in
         let last = future_ended shown id first now held on.taken on.took on.credit gives.2 gives.1 known in
         let empty : within held ≡ [] = within_all held gives.2 ∙ gives.0 in
-        ends_done reason.End last (subst (λ (text : List ℕ). IsOver (lines Whole text)) (sym empty) (none_left Whole [] refl (omega arith))) (λ is. cc) (λ is. cc)
+        ends_done reason.End last (stop_ended held on.taken on.credit gives.2 gives.1) (subst (λ (text : List ℕ). IsOver (lines Whole text)) (sym empty) (none_left Whole [] refl (omega arith))) (λ is. cc) (λ is. cc)
 
     pub ends_over : reader.Gives held taken.Over line new → Ends now at (Ok (record { count = n; stop = reason.Limit }))
     ends_over gives =
         let last = future_over shown id first now held on.taken on.took on.credit gives.0 in
-        ends_done reason.Limit last (none_left Cut (within held) gives.1.none gives.1.short) (λ is. cc) (λ is. cc)
+        ends_done reason.Limit last (stop_over held on.taken on.credit gives.0) (none_left Cut (within held) gives.1.none gives.1.short) (λ is. cc) (λ is. cc)
 
     pub ends_fault : reader.Gives held taken.Fault line new → (shown → IsStuck (now.input id)) → Rose first.faults now.faults → Ends now at (Ok (record { count = n; stop = reason.Failure }))
     ends_fault gives stuck rose =
         let last = future_fault shown id first now held on.taken on.took on.credit gives.0 gives.1 stuck in
-        ends_done reason.Failure last (none_left Cut (within held) gives.2.none gives.2.short) (λ is. cc) (λ is. rose)
+        ends_done reason.Failure last (stop_open held on.taken on.credit gives.0 gives.1) (none_left Cut (within held) gives.2.none gives.2.short) (λ is. cc) (λ is. rose)
 
 -- what is left and may still be read grows less with each line, and never grows
 pub turn_falls : (shown : Type 0) (id : ℕ) (mid now : Moment) (old new : Held) (line : List ℕ) → Turn shown id mid now old new taken.Line line → new.credit + length new.bytes < old.credit + length old.bytes

@@ -23,12 +23,13 @@ use Rattle.pm_reader.specs.declared.follow.LineStop.TheVariants as stops
 use Rattle.pm_reader.specs.declared.follow.LinesEnd.{LinesEnd}
 use Rattle.pm_reader.specs.declared.reader.Taken.{Taken}
 use Rattle.pm_reader.specs.declared.reader.Taken.TheVariants as taken
-use Rattle.pm_reader.specs.Follow.{FailsWithin, Followed, FollowedFront, FollowedOne, Following, GoesThrough, OfScript}
+use Rattle.pm_reader.specs.Follow.{FailsWithin, Followed, FollowedFront, FollowedOne, Following, GoesThrough, OfScript, script_given}
 use Rattle.pm_reader.specs.declared.follow.Front.{Front}
 use Rattle.pm_reader.specs.Front.{AddsNothing, AttachedOne, Behind, IsOther, MakeBlock, ReadAhead, behind, ran}
 use Rattle.pm_reader.specs.Reader.{ComesOn, Gives, HasRead, Held, KnowsEnd, Turn}
 use Rattle.pm_reader.specs.Way.{Answered, Way}
-use Rattle.pm_reader.proofs.FollowLemmas.{HasLine, OnWay, UnderWay, Way-line, Way-map, Way-read, Way-taken, answered, ends_bad, ends_broken, ends_end, ends_fault, ends_long, ends_over, followed_next}
+use Rattle.pm_reader.proofs.FollowLemmas.{Ends, HasLine, OnWay, UnderWay, Way-line, Way-map, Way-read, Way-taken, answered, ends_bad, ends_broken, ends_end, ends_fault, ends_long, ends_over, followed_next}
+use Rattle.pm_io.proofs.GivenLemmas.{meanwhile_gave_none}
 use Rattle.pm_reader.proofs.ReadsLemmas.{lines_on, lines_start}
 use Rattle.pm_reader.proofs.ScriptLemmas as scripts
 use Rattle.pm_reader.proofs.TookLemmas.{Took-refl}
@@ -70,6 +71,7 @@ reads_none shown id first block held empty is = record {
   way = subst (λ (h : Held). Way (Behind []) shown id 0 first first h) (sym is) (record {
     taken = [];
     took = Took-refl shown id first;
+    gave = meanwhile_gave_none id first;
     credit = omega arith;
     goes_on = λ more ending on stop. refl;
     count = omega arith;
@@ -124,7 +126,7 @@ reads_more shown id first now later block then lines old new answer line reads t
       count = omega (arith, reads.count, more);
       blocks = blocks_one reads.events reads.pieces address words reads.blocks takes_it;
       way = front_line shown id first later reads.events event on.held new line means
-          (Way-read (Behind reads.events) shown id (length reads.events) first now later old on.held on.got reads.way on.took on.grows) on.gives;
+          (Way-read (Behind reads.events) shown id (length reads.events) first now later old on.held on.got reads.way on.took on.gave on.grows) on.gives;
       so_far = lines_on id old new first now later reads.so_far read;
       knows = knows reads.knows;
     }
@@ -282,28 +284,37 @@ module _ {F : Type 0} (Follows : Following F) where
       abbrev on_way : List ℕ → List ℕ → Ending → Type 0
       on_way = OnWay nowhere (Broken attached start new) (length events) pieces (length events) tt
 
+      -- it failed in what is read in the end, and in what was given so far
+      abbrev FailedWithin : Type 0
+      FailedWithin =
+          OfScript shown id first (λ s. Goal attached start s new (Err stops.Broken))
+          × Meanwhile first now (λ calls. Goal attached start (script_given id calls) new (Err stops.Broken))
+
+      both_of : (result : Result LinesEnd LineStop) → Ends nowhere (Broken attached start new) (length events) pieces shown id first now tt result → FailedWithin
+      both_of result ends = (ends.followed, ends.given)
+
       by_meaning : (meant : Result Event LineFault) → meaning line ≡ meant → IsOther pieces line → KnowsEnd shown id reader now
           → Way (HasLine nowhere (Broken attached start new) (length events) pieces (length events) line tt) shown id (length events + 1) first now reader
-          → OfScript shown id first (λ s. Goal attached start s new (Err stops.Broken))
+          → FailedWithin
       by_meaning (Ok event) means other knows has =
-          (ends_broken nowhere (Broken attached start new) (length events) pieces shown id first (length events) now reader line tt tt (meaning line) event stops.Broken refl means (λ _. other) (failed, tt) knows has).followed
+          both_of _ (ends_broken nowhere (Broken attached start new) (length events) pieces shown id first (length events) now reader line tt tt (meaning line) event stops.Broken refl means (λ _. other) (failed, tt) knows has)
       by_meaning (Err cause) means other knows has =
-          (ends_bad nowhere (Broken attached start new) (length events) pieces shown id first (length events) now reader line tt (meaning line) cause refl means knows has).followed
+          both_of _ (ends_bad nowhere (Broken attached start new) (length events) pieces shown id first (length events) now reader line tt (meaning line) cause refl means knows has)
 
       by_answer : (answer : Taken) (held : Held) → (answer ≡ taken.Line → IsOther pieces line) → Way on_way shown id (length events) first now held → Gives held answer line reader
           → KnowsEnd shown id reader now → (shown → answer ≡ taken.Fault → IsStuck (now.input id)) → (answer ≡ taken.Fault → Rose first.faults now.faults)
-          → OfScript shown id first (λ s. Goal attached start s new (Err stops.Broken))
+          → FailedWithin
       by_answer taken.Line held other on gives knows stuck fault =
           by_meaning (meaning line) refl (other refl) knows (Way-taken nowhere (Broken attached start new) (length events) pieces shown id first (length events) now held reader line tt on gives)
-      by_answer taken.End held other on gives knows stuck fault = (ends_end nowhere (Broken attached start new) (length events) pieces shown id first (length events) now held reader line tt on gives knows).followed
-      by_answer taken.Long held other on gives knows stuck fault = (ends_long nowhere (Broken attached start new) (length events) pieces shown id first (length events) now held reader line tt on gives knows).followed
-      by_answer taken.Over held other on gives knows stuck fault = (ends_over nowhere (Broken attached start new) (length events) pieces shown id first (length events) now held reader line tt on gives).followed
+      by_answer taken.End held other on gives knows stuck fault = both_of _ (ends_end nowhere (Broken attached start new) (length events) pieces shown id first (length events) now held reader line tt on gives knows)
+      by_answer taken.Long held other on gives knows stuck fault = both_of _ (ends_long nowhere (Broken attached start new) (length events) pieces shown id first (length events) now held reader line tt on gives knows)
+      by_answer taken.Over held other on gives knows stuck fault = both_of _ (ends_over nowhere (Broken attached start new) (length events) pieces shown id first (length events) now held reader line tt on gives)
       by_answer taken.Fault held other on gives knows stuck fault =
-          (ends_fault nowhere (Broken attached start new) (length events) pieces shown id first (length events) now held reader line tt on gives (λ seen. stuck seen refl) (fault refl)).followed
+          both_of _ (ends_fault nowhere (Broken attached start new) (length events) pieces shown id first (length events) now held reader line tt on gives (λ seen. stuck seen refl) (fault refl))
 
       pub front_fails : (answer : Taken) → FailsWithin Follows 1 (replicate (length events) Pass) start new → (answer ≡ taken.Line → IsOther pieces line)
           → Answered (Behind events) shown id (length events) first now answer line reader
-          → OfScript shown id first (λ s. Goal attached start s new (Err stops.Broken))
+          → FailedWithin
       front_fails answer fails other a =
           by_answer answer a.held other
           (Way-map (Behind events) on_way shown id (length events) first now a.held

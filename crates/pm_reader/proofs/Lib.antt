@@ -1,6 +1,7 @@
 pub mod ScriptLemmas
 pub mod HeldLemmas
 pub mod TookLemmas
+pub mod GivenLemmas
 pub mod ReadsLemmas
 pub mod GoesOn
 pub mod Future

@@ -1,11 +1,10 @@
 -- What is read of a script, where it is left as an event.
-use Rattle.std.proofs.Common.{◌≡◌, ℕ, ◌+◌, ◌*◌, ◌<◌, ◌≤◌, Bool, IsTrue, List, [], ◌++◌, length, replicate, Result, Ok, Err, refl, sym, ◌∙◌, ap, subst, arith, inl, inr}
+use Rattle.std.proofs.Common.{◌≡◌, ℕ, ◌+◌, ◌*◌, ◌<◌, ◌≤◌, Bool, IsTrue, List, [], length, replicate, Ok, Err, refl, sym, ap, subst, arith, inl, inr}
 use Rattle.std.proofs.lemmas.List.{append-nil}
 use Rattle.pm_base.specs.declared.events.Event.{Event}
 use Rattle.pm_base.specs.declared.events.Event.TheVariants.{Pass}
 use Rattle.pm_io.specs.declared.prefix.StopReason.{StopReason}
 use Rattle.pm_io.specs.declared.prefix.StopReason.TheVariants as reason
-use Rattle.pm_io.specs.Calls.{Comes}
 use Rattle.pm_io.specs.Inputs.{Moment}
 use Rattle.pm_io.specs.Readings.{Meanwhile}
 use Rattle.pm_io.proofs.ReadingsLemmas.{comes_start}
@@ -15,7 +14,6 @@ use Rattle.pm_script.specs.Script.{script_limit}
 use Rattle.pm_reader.specs.declared.follow.Front.{Front}
 use Rattle.pm_reader.specs.declared.follow.LineStop.{LineStop}
 use Rattle.pm_reader.specs.declared.follow.LineStop.TheVariants as stops
-use Rattle.pm_reader.specs.declared.follow.LinesEnd.{LinesEnd}
 use Rattle.pm_reader.specs.declared.meant.Meant.{Meant}
 use Rattle.pm_reader.specs.declared.meant.Meant.TheVariants as meant
 use Rattle.pm_reader.specs.declared.reader.Taken.{Taken}
@@ -23,7 +21,8 @@ use Rattle.pm_reader.specs.declared.reader.Taken.TheVariants as taken
 use Rattle.pm_reader.specs.Follow.{FollowedInput, FollowedOne, Following, GoesThrough, ReadsLines}
 use Rattle.pm_reader.specs.Front.{Ahead, Attaches}
 use Rattle.pm_reader.specs.Meant.{ComesTo, GaveMeant, ReadMeant}
-use Rattle.pm_reader.specs.Reader.{Gives, Held, KnowsEnd, Turn}
+use Rattle.pm_reader.specs.Reader.{Gives, Held}
+use Rattle.pm_reader.proofs.GivenLemmas.{on_none}
 use Rattle.pm_reader.proofs.ReadsLemmas.{gave_reads}
 use Rattle.pm_reader.proofs.TookLemmas.{Took-refl}
 use Rattle.pm_reader.proofs.StandsLemmas.{Stands, calls_bad, calls_end, calls_fault, calls_long, calls_over, calls_stopped, stands_as, stands_bad, stands_broken, stands_end, stands_fault, stands_few, stands_first, stands_long, stands_next, stands_over, turn_smaller, turns_left}
@@ -39,6 +38,7 @@ held_meant shown id now old new meant event gave =
         got = [];
         held = old;
         took = Took-refl shown id now;
+        gave = on_none id old.ended now;
         grows = record { bytes = sym (append-nil old.bytes); credit = omega arith; ended = λ is. (refl, is) };
         gives = gives;
       };

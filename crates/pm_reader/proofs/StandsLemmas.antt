@@ -137,8 +137,10 @@ module _ {F : Type 0} (Follows : Following F) (shown : Type 0) (id : ℕ) (ahead
       let f = a.is_front in
       let failed : Failed = failed_in 1 (replicate front.lines Pass) start new fails in
       let there : FailsWithin Follows 1 (replicate (length a.events) Pass) start new = subst (λ (k : ℕ). FailsWithin Follows 1 (replicate k Pass) start new) f.lines fails in
+      let both = front_fails Follows ahead.attached a.events a.pieces a.attached f.blocks shown id ahead.first now front.line.items front.reader start new failed front.taken there f.other f.answered in
       record {
-        followed = front_fails Follows ahead.attached a.events a.pieces a.attached f.blocks shown id ahead.first now front.line.items front.reader start new failed front.taken there f.other f.answered;
+        followed = both.0;
+        given = both.1;
         ends = tt;
         fault = tt;
       }
@@ -189,7 +191,7 @@ module _ {F : Type 0} (Follows : Following F) (shown : Type 0) (id : ℕ) (ahead
     -- this is what is asked for
     whole : (pieces : List Piece) (then : F) (result : Result LinesEnd LineStop) → Ends Follows (Goal Follows ahead.attached start) front pieces shown id ahead.first now then result
         → FollowedInput Follows shown id ahead now start then result
-    whole pieces then result e = record { followed = e.followed; ends = e.ends; fault = e.fault }
+    whole pieces then result e = record { followed = e.followed; given = e.given; ends = e.ends; fault = e.fault }
 
     -- the line has no meaning
     pub stands_bad : (meant : Result Event LineFault) (cause : LineFault) → Stands Follows shown id ahead front start now n at taken.Line line reader

@@ -7,7 +7,8 @@ use Rattle.pm_io.specs.Calls.{Call, GoesToFault, GoesUpTo}
 use Rattle.pm_base.specs.Faults.{Rose}
 use Rattle.pm_io.specs.Inputs.{Moment}
 use Rattle.pm_io.specs.Prefix.{Prefix, prefix_before}
-use Rattle.pm_io.specs.Readings.{LeftReadBy}
+use Rattle.pm_io.specs.Given.{prefix_given, stop_after}
+use Rattle.pm_io.specs.Readings.{LeftReadBy, Meanwhile}
 use Rattle.pm_reader.specs.declared.follow.LineStop.{LineStop}
 use Rattle.pm_reader.specs.declared.follow.LineStop.TheVariants as stops
 use Rattle.pm_reader.specs.declared.follow.LinesEnd.{LinesEnd}
@@ -27,6 +28,11 @@ pub record OfScript (shown : Type 0) (id : ℕ) (before : Moment) (Holds : Scrip
   pub begun : prefix.stop ≡ Unbegun → ⊥
   pub is : shown → (before.input id).place ≡ 0 → prefix ≡ prefix_before script_limit (before.input id).file.fails_at (before.input id).file.bytes
   pub holds : Holds (script_from (script_lines prefix) (stop_of prefix.stop))
+
+-- the script that calls gave under a number: of the lines of the bytes that they gave, up to the limit, to the end, or to
+-- where these break off
+abbrev pub script_given : ℕ → List Call → Script
+script_given id calls = script_from (script_lines (prefix_given script_limit id calls)) (stop_of (stop_after script_limit id calls))
 
 -- a script was read up to somewhere, or to a read that failed
 abbrev pub IsBrokenOff : ℕ → List Call → Type 0
@@ -76,5 +82,8 @@ module _ {F : Type 0} (Follows : Following F) where
   -- attached, and then nothing happens in its lines
   pub record FollowedInput (shown : Type 0) (id : ℕ) (ahead : Ahead) (after : Moment) (old new : F) (result : Result LinesEnd LineStop) : Type 0 where
     pub followed : OfScript shown id ahead.first (λ s. (attached_by s.events ≡ ahead.attached) × Followed 1 (ran s) old new result)
+    -- of every input, it holds of the script that the calls gave since
+    pub given : Meanwhile ahead.first after (λ calls. (attached_by (script_given id calls).events ≡ ahead.attached)
+        × Followed 1 (ran (script_given id calls)) old new result)
     pub ends : IfOk result (λ end. end.stop ≡ Unbegun → ⊥)
     pub fault : IfOk result (λ end. end.stop ≡ Failure → Rose ahead.first.faults after.faults)

@@ -1,7 +1,9 @@
 -- A reader of lines: what it holds, what its answers mean, and the lines that it gives.
-use Rattle.std.specs.Prelude.{◌≡◌, ℕ, ◌+◌, ◌-◌, ◌<◌, ◌≤◌, ◌⊎◌, ◌==◌, Bool, false, IsTrue, List, [], ◌++◌, length, take, drop, position, Some, None, if◌then◌else◌}
+use Rattle.std.specs.Prelude.{◌≡◌, ℕ, ◌+◌, ◌-◌, ◌<◌, ◌≤◌, ◌⊎◌, ◌==◌, ◌||◌, Bool, false, IsTrue, List, [], ◌++◌, length, take, drop, position, Some, None, if◌then◌else◌}
 use Rattle.pm_io.specs.Calls.{Call, Comes, GoesToFault}
+use Rattle.pm_io.specs.Given.{Gave}
 use Rattle.pm_io.specs.Inputs.{IsStuck, Moment, Took, rest}
+use Rattle.pm_io.specs.Readings.{Meanwhile}
 use Rattle.pm_reader.specs.declared.reader.Taken.{Taken}
 use Rattle.pm_reader.specs.declared.reader.Taken.TheVariants.{Line, End, Long, Over, Fault}
 
@@ -29,11 +31,18 @@ pub record Grows (old : Held) (got : List ℕ) (new : Held) : Type 0 where
   pub credit : new.credit + length got ≡ old.credit
   pub ended : IsTrue old.ended → (got ≡ []) × IsTrue new.ended
 
+-- between two moments the calls gave these bytes under a number, and told the end just if it is seen now and was not before
+pub record GaveOn (id : ℕ) (got : List ℕ) (was is : Bool) (before after : Moment) : Type 0 where
+  pub told : Bool
+  pub gave : Meanwhile before after (Gave id got told)
+  pub seen : is ≡ (was || told)
+
 -- bytes of an input were read behind those that are held
 pub record Grew (shown : Type 0) (id : ℕ) (old new : Held) (before after : Moment) : Type 0 where
   pub got : List ℕ
   pub grows : Grows old got new
   pub took : Took shown id got before after
+  pub gave : GaveOn id got old.ended new.ended before after
 
 -- the first line that is held was given, up to its line feed
 pub record GaveByFeed (held : Held) (line : List ℕ) (new : Held) : Type 0 where
@@ -83,6 +92,7 @@ pub record Turn (shown : Type 0) (id : ℕ) (before after : Moment) (old new : H
   pub got : List ℕ
   pub held : Held
   pub took : Took shown id got before after
+  pub gave : GaveOn id got old.ended held.ended before after
   pub grows : Grows old got held
   pub gives : Gives held answer line new
 

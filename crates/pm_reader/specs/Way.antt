@@ -3,6 +3,7 @@ use Rattle.std.specs.Prelude.{◌≡◌, ℕ, ◌+◌, ◌<◌, ◌≤◌, false
 use Rattle.pm_io.specs.declared.lines.Ending.{Ending}
 use Rattle.pm_io.specs.declared.lines.Ending.TheVariants.{Whole, Cut}
 use Rattle.pm_io.specs.Calls.{Comes}
+use Rattle.pm_io.specs.Given.{Gave}
 use Rattle.pm_base.specs.Faults.{Rose}
 use Rattle.pm_io.specs.Inputs.{IsStuck, Moment, Took}
 use Rattle.pm_io.specs.Readings.{Meanwhile}
@@ -24,6 +25,7 @@ GoesOn R held taken = (more : List ℕ) (ending : Ending) → MayGoOn held more 
 pub record Way (S : List ℕ → List ℕ → Ending → Type 0) (shown : Type 0) (id n : ℕ) (first now : Moment) (held : Held) : Type 0 where
   pub taken : List ℕ
   pub took : Took shown id taken first now
+  pub gave : Meanwhile first now (Gave id taken held.ended)
   pub credit : held.credit + length taken ≡ script_limit + 1
   pub goes_on : GoesOn S held taken
   pub count : n + length held.bytes ≤ length taken
