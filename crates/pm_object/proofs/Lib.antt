@@ -5,6 +5,8 @@ pub mod Steps
 pub mod ReadLists
 pub mod ReadMasters
 pub mod ReadRecords
+pub mod FaultSteps
+pub mod FaultRecords
 pub mod ReadHeader
 pub mod Bodies
 pub mod SectionNames
@@ -12,6 +14,8 @@ pub mod ReadNames
 pub mod ReadBodies
 pub mod ReadSections
 pub mod ReadObject
+pub mod FaultObject
+pub mod FaultWhole
 pub mod Fitting
 pub mod Local
 pub mod LocalReaders

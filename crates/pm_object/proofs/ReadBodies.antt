@@ -6,13 +6,14 @@ use Rattle.pm_object.specs.declared.object.Section.{Section}
 use Rattle.pm_object.specs.declared.object.Section.TheVariants.{Masters, Slaves, Prealloc, Power, Reset, Shutdown, Config, Gpo}
 use Rattle.pm_object.specs.declared.object.Object.{Object}
 use Rattle.pm_object.specs.Bodies.{Body, with_body, with_section}
+use Rattle.pm_object.specs.FirstFault.{Any, AnyTwo, Differ, MayFollow}
 use Rattle.pm_object.specs.Grammar.{identifier, counted, body_words, slave_words, group_words, pair_words, HaveOwnKeys, HasOwnNodes, IsBody}
 use Rattle.pm_object.specs.Reading.{Cursor, ◌>>=◌, word, counted_records, slave, group, pair, section_name, body, section_body, section}
 use Rattle.pm_object.proofs.Steps.{bind_ok, ok_is, Again, before, word_takes, word_again}
 use Rattle.pm_object.proofs.ReadMasters.{masters_take, masters_again}
 use Rattle.pm_object.proofs.ReadLists.{counted_take, counted_again}
-use Rattle.pm_object.proofs.ReadRecords.{Any, Differ, AnyTwo, slave_reader, pair_reader, group_reader}
-use Rattle.pm_object.proofs.ReadNames.{MayFollow, name_takes, name_again}
+use Rattle.pm_object.proofs.ReadRecords.{slave_reader, pair_reader, group_reader}
+use Rattle.pm_object.proofs.ReadNames.{name_takes, name_again}
 
 -- ---- what stands in a section
 
@@ -58,7 +59,7 @@ body_again Gpo c b rest text together some = word_again c b rest text
 
 -- ---- a section with its identifier
 
-body_in : (s : Section) (o : Object) (c : Cursor) → section_body s o c ≡ (body s c >>= λ b. Ok (with_body s b.0 o, b.1))
+pub body_in : (s : Section) (o : Object) (c : Cursor) → section_body s o c ≡ (body s c >>= λ b. Ok (with_body s b.0 o, b.1))
 unfolding section_body
 body_in Masters o c = refl
 body_in s o c = refl

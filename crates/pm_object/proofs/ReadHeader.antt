@@ -9,13 +9,13 @@ use Rattle.pm_object.specs.Reading.{Cursor, Step, word, header, records}
 use Rattle.pm_object.proofs.Steps.{bind_ok, passed, ok_is, Again, before, word_takes, word_again}
 use Rattle.pm_object.proofs.ReadLists.{IsReader, records_take, records_again, flat_map_words}
 
-abbrev one : List ℕ → Cursor → Step ℕ
+abbrev pub one : List ℕ → Cursor → Step ℕ
 one earlier c = word c
 
-abbrev spell : ℕ → List ℕ
+abbrev pub spell : ℕ → List ℕ
 spell w = w ∷ []
 
-reader : IsReader one spell (λ _. ⊤) (λ _ _. ⊤)
+pub reader : IsReader one spell (λ _. ⊤) (λ _ _. ⊤)
 reader = record { takes = λ earlier c x d e. (word_takes c x d e, tt, λ k v within. tt); again = λ earlier c x rest text own apart. word_again c x rest text }
 
 -- the words of a header

@@ -20,7 +20,7 @@ pub record HasNode (earlier : List MasterRec) (node : ℕ) : Type 0 where
   pub modes : All (λ e. splits_lockstep e.node node ≡ false) earlier
   pub own : All (λ e. e.node ≢ node) earlier
 
-node_takes : (earlier : List MasterRec) (c : Cursor) (w : ℕ) (d : Cursor) → master_node earlier c ≡ Ok (w, d) → (c.left ≡ w ∷ d.left) × HasNode earlier w
+pub node_takes : (earlier : List MasterRec) (c : Cursor) (w : ℕ) (d : Cursor) → master_node earlier c ≡ Ok (w, d) → (c.left ≡ w ∷ d.left) × HasNode earlier w
 unfolding master_node
 node_takes earlier c w d e =
     let bad = λ (v : ℕ). not (is_master_node v) || list_any (λ m. splits_lockstep m.node v) earlier in
@@ -54,7 +54,7 @@ pub record HasBit (earlier : List MasterRec) (mask : ℕ) : Type 0 where
   pub one_bit : count_ones mask ≡ 1
   pub own : All (λ e. bit_and e.mask mask ≡ 0) earlier
 
-mask_takes : (earlier : List MasterRec) (c : Cursor) (w : ℕ) (d : Cursor) → master_mask earlier c ≡ Ok (w, d) → (c.left ≡ w ∷ d.left) × HasBit earlier w
+pub mask_takes : (earlier : List MasterRec) (c : Cursor) (w : ℕ) (d : Cursor) → master_mask earlier c ≡ Ok (w, d) → (c.left ≡ w ∷ d.left) × HasBit earlier w
 unfolding master_mask
 mask_takes earlier c w d e =
     let t = tested_takes (λ v. not (eqb (count_ones v) 1) || list_any (λ m. not (eqb (bit_and m.mask v) 0)) earlier) MaskRepeated c w d e in
@@ -104,7 +104,7 @@ master_again earlier c x rest text good apart =
     let wake = word_again suspend.after x.wake rest suspend.left in
     record { after = wake.after; is = rw (node.is, mask.is, timeout.is, suspend.is, wake.is) refl; left = wake.left }
 
-reader : IsReader master master_words IsMaster AreApart
+pub reader : IsReader master master_words IsMaster AreApart
 reader = record { takes = master_takes; again = master_again }
 
 -- ---- the section

@@ -8,15 +8,11 @@ use Rattle.pm_base.proofs.Elements.{each_fails}
 use Rattle.pm_object.specs.declared.object.Section.{Section}
 use Rattle.pm_object.specs.declared.object.Section.TheVariants.{Masters, Slaves, Prealloc, Power, Reset, Shutdown, Config, Gpo}
 use Rattle.pm_object.specs.declared.object.ObjectCause.TheVariants.{RepeatedSection, NoMasters}
+use Rattle.pm_object.specs.FirstFault.{MayFollow}
 use Rattle.pm_object.specs.Grammar.{identifier}
 use Rattle.pm_object.specs.Reading.{Cursor, ◌>>=◌, fault, word, section_of, is_among, section_after, section_name}
 use Rattle.pm_object.proofs.Steps.{bind_ok, passed, ok_is, Again, word_takes, word_again}
 use Rattle.pm_object.proofs.SectionNames.{some_is, section_again, same_section_from_identifier}
-
--- a section that may come after these
-pub record MayFollow (order : List Section) (s : Section) : Type 0 where
-  pub new : All (λ t. t ≢ s) order
-  pub first : order ≡ [] → s ≡ Masters
 
 -- ---- a word names at most one section
 
@@ -52,7 +48,7 @@ new_is order s e =
     All-weaker (λ (t : Section). eqb (identifier t) (identifier s) ≡ false) (λ t. t ≢ s) (λ t differs same. eqb-false _ _ differs (ap identifier same)) order
     (each_fails (λ (t : Section). eqb (identifier t) (identifier s)) order e)
 
-is_new : (order : List Section) (s : Section) → All (λ t. t ≢ s) order → is_among s order ≡ false
+pub is_new : (order : List Section) (s : Section) → All (λ t. t ≢ s) order → is_among s order ≡ false
 is_new order s new =
     list_any_none (λ (t : Section). eqb (identifier t) (identifier s)) order
     (All-weaker (λ (t : Section). t ≢ s) (λ t. eqb (identifier t) (identifier s) ≡ false) (λ t differs. ne_eqb _ _ (λ (same : identifier t ≡ identifier s). differs (same_section_from_identifier t s same))) order new)

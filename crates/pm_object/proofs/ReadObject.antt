@@ -14,13 +14,14 @@ use Rattle.pm_object.specs.declared.object.DecodeError.{DecodeError}
 use Rattle.pm_object.specs.declared.object.ObjectFault.{ObjectFault}
 use Rattle.pm_object.specs.declared.object.ObjectCause.TheVariants.{TooLong, Length, NoMasters, Trailing}
 use Rattle.pm_object.specs.Bodies.{no_body, unset}
+use Rattle.pm_object.specs.FirstFault.{IsPart}
 use Rattle.pm_object.specs.Grammar.{IsObject, Reads, little_endian, words_of, section_words, IsBody, IsMaster, AreApart, HasOwnNodes}
 use Rattle.pm_object.specs.Reading.{Cursor, fault, header, sections, object, words, reading, fault_of, first_fault, Gives}
 use Rattle.pm_object.proofs.Bytes.{IsBytes, bytes_fit, words_again, length_little_endian, bytes_again, words_fit}
 use Rattle.pm_object.proofs.Steps.{bind_ok, passed, ok_is}
 use Rattle.pm_object.proofs.ReadHeader.{header_takes, header_again}
 use Rattle.pm_object.proofs.Bodies.{body-unset}
-use Rattle.pm_object.proofs.ReadSections.{IsPart, UpTo, sections_take, sections_again}
+use Rattle.pm_object.proofs.ReadSections.{UpTo, sections_take, sections_again}
 
 -- ---- an object without sections
 
@@ -34,7 +35,7 @@ none_together Shutdown = no_pairs (λ a b. a.key ≢ b.key)
 none_together Config = tt
 none_together Gpo = tt
 
-unset_part : (extra : List ℕ) → IsPart (unset extra)
+pub unset_part : (extra : List ℕ) → IsPart (unset extra)
 unset_part extra = record { once = no_pairs (λ s t. s ≢ t); unset = λ s hasnt. body-unset s extra; sections = λ s. subst (IsBody s) (sym (body-unset s extra)) (none_together s); begun = inl refl }
 
 -- ---- the words

@@ -1,23 +1,15 @@
 -- The slaves, preallocations and pairs that are read are those that are written.
-use Rattle.std.proofs.Common.{◌≡◌, ◌≢◌, ℕ, List, ◌++◌, Ok, refl, subst}
-use Rattle.std.specs.Bool.{⊤}
+use Rattle.std.proofs.Common.{◌≡◌, ℕ, List, ◌++◌, Ok, refl, subst}
 use Rattle.std.specs.List.{All}
 use Rattle.pm_object.specs.declared.object.SlaveRec.{SlaveRec}
 use Rattle.pm_object.specs.declared.object.PreRec.{PreRec}
 use Rattle.pm_object.specs.declared.object.PreGroup.{PreGroup}
 use Rattle.pm_object.specs.declared.object.Pair.{Pair}
+use Rattle.pm_object.specs.FirstFault.{Any, AnyTwo, Differ}
 use Rattle.pm_object.specs.Grammar.{slave_words, preset_words, group_words, pair_words, HasOwnNodes}
 use Rattle.pm_object.specs.Reading.{Cursor, word, own_key, counted_records, slave, preset, group, pair}
 use Rattle.pm_object.proofs.Steps.{bind_ok, ok_is, Again, before, word_takes, word_again, own_key_takes, own_key_again}
 use Rattle.pm_object.proofs.ReadLists.{IsReader, counted_take, counted_again}
-
--- nothing is asked of one record alone
-abbrev pub Any : {A : Type 0} → A → Type 0
-Any x = ⊤
-
--- two records have keys of their own
-abbrev pub Differ : {A : Type 0} → (A → ℕ) → A → A → Type 0
-Differ key a b = key a ≢ key b
 
 -- ---- slaves
 
@@ -88,13 +80,10 @@ preset_again earlier c x rest text good apart =
     let set = word_again current.after x.preset rest current.left in
     record { after = set.after; is = rw (node.is, flags.is, current.is, set.is) refl; left = set.left }
 
-preset_reader : IsReader preset preset_words Any (Differ (λ r. r.node))
+pub preset_reader : IsReader preset preset_words Any (Differ (λ r. r.node))
 preset_reader = record { takes = preset_takes; again = preset_again }
 
 -- ---- groups of preallocations
-
-abbrev pub AnyTwo : {A : Type 0} → A → A → Type 0
-AnyTwo a b = ⊤
 
 group_takes : (earlier : List PreGroup) (c : Cursor) (x : PreGroup) (d : Cursor) → group earlier c ≡ Ok (x, d) → (c.left ≡ group_words x ++ d.left) × HasOwnNodes x × All (λ e. AnyTwo e x) earlier
 unfolding group

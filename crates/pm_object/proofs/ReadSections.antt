@@ -10,22 +10,16 @@ use Rattle.pm_object.specs.declared.object.Section.{Section}
 use Rattle.pm_object.specs.declared.object.Section.TheVariants.{Masters}
 use Rattle.pm_object.specs.declared.object.Object.{Object}
 use Rattle.pm_object.specs.Bodies.{body_of, no_body, with_section}
+use Rattle.pm_object.specs.FirstFault.{IsPart, MayFollow}
 use Rattle.pm_object.specs.Grammar.{section_words, body_words, identifier, IsBody, IsObject}
 use Rattle.pm_object.specs.Reading.{Cursor, section, sections}
 use Rattle.pm_object.proofs.Steps.{bind_ok, ok_is, Again}
-use Rattle.pm_object.proofs.ReadNames.{MayFollow}
 use Rattle.pm_object.proofs.ReadBodies.{HasSome, IsNext, section_takes, section_again}
 use Rattle.pm_object.proofs.Bodies.{words-inner, order-section, extra-section, body-section, others-section, same_object}
 use Rattle.pm_base.proofs.Elements.{contains_or_not, earlier_ones, not_among}
 use Rattle.pm_object.proofs.SectionNames.{same_or_not, some_is}
 
 -- ---- an object whose sections are read one by one
-
-pub record IsPart (o : Object) : Type 0 where
-  pub once : AllPairs (λ s t. s ≢ t) o.order
-  pub unset : (s : Section) → (Contains o.order s → ⊥) → body_of s o ≡ no_body s
-  pub sections : (s : Section) → IsBody s (body_of s o)
-  pub begun : (o.order ≡ []) ⊎ ((slice_get o.order 0 ≡ Some Masters) × (0 < length o.masters))
 
 -- the other sections stay
 next_others : (o : Object) (c : Cursor) (p : Object) (d : Cursor) (next : IsNext o c p d) (t : Section) → t ≢ next.name → body_of t p ≡ body_of t o

@@ -2,6 +2,7 @@
 
 ghost use Rattle.std.specs.Prelude.{◌≡◌, IfOk, Ok, Err, Some};
 ghost use Rattle.pm_object.specs.declared.object.ObjectFault.{ObjectFault};
+ghost use Rattle.pm_object.specs.FirstFault.{IsFirstFault};
 ghost use Rattle.pm_object.specs.Grammar.{Reads};
 ghost use Rattle.pm_object.specs.Reading.{Gives, IsFatal, first_fault, object, reading};
 
@@ -53,6 +54,8 @@ pub fn decode(alloc: Global, bytes: &[u8]) -> Result<Object, DecodeError>
     ensures found { IfOk result (λ o. Reads bytes.now o) }
     // What the bytes spell is read.
     ensures only { (o : Object) → Reads bytes.now o → Gives result (Ok o) }
+    // The words before the fault's own keep the rules of the grammar, and its own word breaks the one that is told.
+    ensures first { (f : ObjectFault) → result ≡ Err (DecodeError.Bad f) → IsFirstFault bytes.now f }
     // What is wrong is the first fault.
     ensures bad { (f : ObjectFault) → result ≡ Err (DecodeError.Bad f) → first_fault bytes.now ≡ Some f }
     // Where something is wrong, the bytes spell nothing, nor do others that agree with them up to the

@@ -1,5 +1,6 @@
 use Rattle.std.proofs.Common.{arith}
 use Rattle.pm_object.proofs.Fatal.{is_unreadable, is_fatal_fault}
+use Rattle.pm_object.proofs.FaultWhole.{is_first_fault}
 use Rattle.pm_object.proofs.ReadObject.{is_found, is_only}
 use Rattle.pm_object.proofs.decoding.decode.Goals as goal
 
@@ -14,3 +15,6 @@ returns-clause-unreadable c = λ f is. is_unreadable c.args.bytes.now c.read_byt
 
 pub returns-clause-fatal : goal.returns-clause-fatal
 returns-clause-fatal c = λ f is. is_fatal_fault c.args.bytes.now c.read_bytes.result f c.read_bytes.ensures is
+
+pub returns-clause-first : goal.returns-clause-first
+returns-clause-first c = λ f is. is_first_fault c.args.bytes.now c.read_bytes.result f (λ i. omega (arith, c.type_inv.bytes i)) c.read_bytes.ensures is
