@@ -14,4 +14,5 @@ mod wanted;
 pub use carrying::Carrying;
 pub use commands::{carry, carry_all};
 pub use laws::{a_part_without_refusal, each_part_is_safe, marks_suffice, orders_join};
+pub use pm_record::Kept;
 pub use turns::Turn;
