@@ -18,9 +18,10 @@ USAGE, BAD_OBJECT, BAD_LINE, UNREADABLE, UNWRITABLE, NO_MEMORY, TOO_LARGE, BAD_T
 # That of the wrapper and of the views for all else: wrong words, and a fault of their own.
 NOT_RUN = 125
 # The exits of views that have done their work and found something: a rule is broken, something is to be said of the
-# object, or a record gives a master something that no rule was judged by. What they say is written as with exit 0.
-BROKEN, FOUND, NOT_JUDGED = 101, 102, 103
-DONE = (0, BROKEN, FOUND, NOT_JUDGED)
+# object, a record gives a master something that no rule was judged by or nothing is expected of a script, or a run is
+# otherwise than is expected. What they say is written as with exit 0.
+BROKEN, FOUND, NOT_JUDGED, UNEXPECTED = range(101, 105)
+DONE = (0, BROKEN, FOUND, NOT_JUDGED, UNEXPECTED)
 
 # The most bytes that are read of each kind of file, in the order in which they are read.
 LIMITS = {"OBJ": 16_384, "TEXT": 1_048_576, "TOPO": 1_048_576, "SCRIPT": 67_108_864}

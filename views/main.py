@@ -30,6 +30,7 @@ VIEWS = {
     "diff": "diff",
     "names": "names",
     "import": "import_log",
+    "test": "testing",
 }
 
 
