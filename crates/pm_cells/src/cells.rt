@@ -1,4 +1,4 @@
-//! Cells whose reads are counted.
+//! Cells whose reads are counted where a call says what it costs.
 
 ghost use Rattle.std.specs.Prelude.{◌≡◌, ◌+◌, ◌<◌, length, replicate, slice_get, slice_set, Some, IfOk};
 
@@ -7,7 +7,7 @@ use std::alloc::Global;
 use std::marker::Model;
 use std::sync::ledger::Ledger;
 
-/// A fixed number of cells. Contracts see the list of their values. Each read counts a step.
+/// A fixed number of cells. Contracts see the list of their values. A read with a counter counts a step.
 #[derive(Debug, Drop)]
 pub struct Cells<T> {
     items: Vec<T>,
@@ -43,6 +43,14 @@ impl<T: Copy + Drop> Cells<T> {
         ensures steps { steps.new ≡ steps.old + 1 }
     {
         steps.tick();
+        self.items[k]
+    }
+
+    /// The value of a cell, for a caller whose cost nothing bounds. No step is counted.
+    pub fn value(&self, k: usize) -> T
+        requires { k < length self.now }
+        ensures { slice_get self.now k ≡ Some result }
+    {
         self.items[k]
     }
 

@@ -11,8 +11,10 @@ use Rattle.pm_base.specs.declared.caps.Caps.{Caps}
 use Rattle.pm_rows.specs.Modes.{mode_in}
 use Rattle.pm_rows.specs.Rows.{no_caps}
 use Rattle.pm_rows.specs.Wanted.{arming_differs, both, by_hold, by_use, required_by, wakeup, while_asleep}
-use Rattle.pm_rows.specs.Shift.{exchanged, is_calm, restored, shifted_row, unscheduled}
-use Rattle.pm_rows.specs.Counted.{Table, counted, counted_in}
+use Rattle.pm_rows.specs.Shift.{exchanged, is_calm, restored, shifted_row, turned_row, unscheduled}
+use Rattle.pm_rows.specs.Cost.{put_cost}
+use Rattle.pm_rows.specs.Counted.{Table, counted, counted_in, permitted_on}
+use Rattle.pm_rows.proofs.Paid.{alike_free}
 use Rattle.pm_rows.specs.Passes.{rests}
 use Rattle.pm_rows.specs.Passing.{IsPut, MayPutAt}
 use Rattle.pm_rows.proofs.Tallies.{moved_same, set_same}
@@ -65,6 +67,29 @@ module _ (row : Row) (same : row.used ≡ true → row.now ≡ row.next) where
   stays Suspending Asleep taken calm = swapped row.used refl
   stays Suspending Suspending taken calm = refl
 
+row_kept : (b : Bool) (row : Row) → (if b then row else row) ≡ row
+row_kept true row = refl
+row_kept false row = refl
+
+-- what a calm change makes of a row
+pub turned_is : (from to : Mode) (taken : Bool) (row : Row) → is_calm from to ≡ true → turned_row from to row ≡ shifted_row from to taken row
+turned_is Off Off taken row calm = cc
+turned_is Off Active taken row calm = cc
+turned_is Off Asleep taken row calm = row_kept row.used row
+turned_is Off Suspending taken row calm = row_kept row.used row
+turned_is Active Off taken row calm = cc
+turned_is Active Active taken row calm = row_kept row.used row
+turned_is Active Asleep taken row calm = refl
+turned_is Active Suspending taken row calm = refl
+turned_is Asleep Off taken row calm = cc
+turned_is Asleep Active taken row calm = refl
+turned_is Asleep Asleep taken row calm = row_kept row.used row
+turned_is Asleep Suspending taken row calm = row_kept row.used row
+turned_is Suspending Off taken row calm = cc
+turned_is Suspending Active taken row calm = refl
+turned_is Suspending Asleep taken row calm = refl
+turned_is Suspending Suspending taken row calm = row_kept row.used row
+
 -- neither of two modes is sleep
 awake_both : (m n : Mode) (caps : Caps) → arming_differs m n ≡ false → while_asleep m caps ≡ while_asleep n caps
 awake_both Off Off caps is = refl
@@ -108,6 +133,10 @@ rest_put k known from to taken table start steps x entry at here resting calm pl
     let own : rests (arming_differs from to) x ≡ true = ap (rests (arming_differs from to)) (sym same) ∙ resting in
     let room : x.seed.slave < length table.tally.users = subst (λ (e : Entry). e.seed.slave < length table.tally.users) same placed in
     let left : shifted_row from to taken x.row ≡ x.row = stays x.row (wants_next (arming_differs from to) x own) from to taken calm in
+    let free : put_cost (counted known x) (counted_in to x) (permitted_on x.seed.slave table.entries) ≡ 0 =
+    alike_free (counted known x) (counted_in to x) (permitted_on x.seed.slave table.entries)
+    (sym (ap (λ m. required_by m x) mode ∙ wants_same from to x own)) refl refl
+    in
     let P : Row → Type 0 = λ row. IsPut k (counted known x) (counted_in to (record x { row = row })) table start table steps in
     subst P (sym left) (record {
       placed = room;
@@ -116,7 +145,7 @@ rest_put k known from to taken table start steps x entry at here resting calm pl
           (sym (ap (λ m. required_by m x) mode ∙ wants_same from to x own)) (may x at room few).limit);
       slaves = refl;
       room = refl;
-      cost = omega (arith, reads);
+      cost = omega (arith, reads, free);
     })
 
 -- what a row requires, by what it requires by

@@ -16,3 +16,4 @@ pub mod Tallies
 pub mod There
 pub mod Turns
 pub mod Wants
+mod Paid

@@ -20,10 +20,12 @@ use Rattle.pm_rows.specs.declared.passes.Pass.TheVariants.{One, Settle, Shift, D
 use Rattle.pm_rows.specs.Modes.{mode_in}
 use Rattle.pm_rows.specs.Rows.{is_rival, is_at}
 use Rattle.pm_rows.specs.Shift.{shifted_row, is_taken}
-use Rattle.pm_rows.specs.Counted.{Counted, Table, Tally, AreTallied, AreReady, counted, counted_in, entry_in, is_on, permitted_on, limit_of, moved}
-use Rattle.pm_rows.specs.Passes.{touches, row_after, passed, known_after, cost_of}
+use Rattle.pm_rows.specs.Wanted.{limit_by, required_by}
+use Rattle.pm_rows.specs.Counted.{Counted, Table, Tally, AreTallied, AreReady, has, counted, counted_in, entry_in, is_on, permitted_on, limit_of, moved}
+use Rattle.pm_rows.specs.Passes.{touches, row_after, passed, known_after, cost_of, done}
+use Rattle.pm_rows.specs.Cost.{is_same_limit, moves, put_cost}
 use Rattle.pm_cells.specs.Midway.{midway}
-use Rattle.pm_rows.specs.Passing.{same, done, IsPassing, MayPut, PutsAt, Turns}
+use Rattle.pm_rows.specs.Passing.{same, IsPassing, MayPut, PutsAt, Turns}
 use Rattle.pm_cells.proofs.Midway.{midway_get, midway_set, midway_same, midway_map, midway_len, midway_count, midway_any, map_same, midway_end, there}
 use Rattle.pm_cells.proofs.Counting.{one_if}
 use Rattle.pm_rows.proofs.Tallies.{tallied_moved, tallied_ready, tallied_limit}
@@ -120,7 +122,8 @@ module _ (pass : Pass) (known : List Mode) (rows : List Entry) (start k : ℕ) (
       → row ≡ row_after pass table.entries x
       → next.entries ≡ slice_set table.entries k (record x { row = row })
       → next.tally ≡ moved (counted_in (mode_in x.seed.master known) x) (counted_in to (record x { row = row })) next.entries table.tally
-      → later ≤ (steps + 1) + (4 + permitted_on x.seed.slave table.entries)
+      → later ≡ steps + 1 + put_cost (counted_in (mode_in x.seed.master known) x) (counted_in to (record x { row = row }))
+      (permitted_on x.seed.slave table.entries)
       → IsPassing pass known rows start (k + 1) next later
   put_here x to row next later at touched placed mode row_is entries tally cost =
       let after : record x { row = row } ≡ passed pass rows x =
@@ -138,16 +141,21 @@ module _ (pass : Pass) (known : List Mode) (rows : List Entry) (start k : ℕ) (
       next.entries is.kept (midway_get (done pass known rows) (counted known) rows k x at) refl placed
       (entries ∙ ap (λ es. slice_set es k (record x { row = row })) (is.changed ∙ sym (entries_midway pass known rows k)))
       in
-      let due : cost_of pass rows x ≡ 5 + permitted_on x.seed.slave rows = ap (λ b. cond b (5 + permitted_on x.seed.slave rows) 0) touched in
-      let left : sum_by (cost_of pass rows) (drop k rows) ≡ cost_of pass rows x + sum_by (cost_of pass rows) (drop (k + 1) rows) =
-      ap (sum_by (cost_of pass rows)) (drop_found rows k x at) ∙ sum_by-cons (cost_of pass rows) x (drop (k + 1) rows)
+      let price : ℕ = put_cost (counted known x) (done pass known rows x) (permitted_on x.seed.slave rows) in
+      let due : cost_of pass known rows x ≡ 1 + price = ap (λ b. cond b (1 + price) 0) touched in
+      let paid : put_cost (counted known x) (counted_in to (record x { row = row })) (permitted_on x.seed.slave table.entries) ≡ price =
+      ap (put_cost (counted known x) (counted_in to (record x { row = row }))) (permitted_here x.seed.slave)
+      ∙ ap (λ y. put_cost (counted known x) y (permitted_on x.seed.slave rows)) seen
+      in
+      let left : sum_by (cost_of pass known rows) (drop k rows) ≡ cost_of pass known rows x + sum_by (cost_of pass known rows) (drop (k + 1) rows) =
+      ap (sum_by (cost_of pass known rows)) (drop_found rows k x at) ∙ sum_by-cons (cost_of pass known rows) x (drop (k + 1) rows)
       in
       record {
         changed =
             entries ∙ (ap (λ es. slice_set es k (record x { row = row })) is.changed
             ∙ (ap (slice_set (midway (passed pass rows) same k rows) k) after ∙ midway_set (passed pass rows) same rows k x at));
         kept = subst P (sym tally) (subst Q (ap (slice_set (midway (done pass known rows) (counted known) k rows) k) seen ∙ put) here);
-        cost = omega (arith, due, left, is.cost, permitted_here x.seed.slave);
+        cost = omega (arith, due, left, is.cost, paid, cost);
       }
 
   -- or it is left
@@ -159,9 +167,10 @@ module _ (pass : Pass) (known : List Mode) (rows : List Entry) (start k : ℕ) (
       ap (λ m. counted_in m (passed pass rows x)) (mode_untouched pass known x untouched) ∙ ap (counted_in (mode_in x.seed.master known)) stays
       in
       let P : List Counted → Type 0 = λ cs. AreTallied cs table.tally in
-      let due : cost_of pass rows x ≡ 0 = ap (λ b. cond b (5 + permitted_on x.seed.slave rows) 0) untouched in
-      let left : sum_by (cost_of pass rows) (drop k rows) ≡ cost_of pass rows x + sum_by (cost_of pass rows) (drop (k + 1) rows) =
-      ap (sum_by (cost_of pass rows)) (drop_found rows k x at) ∙ sum_by-cons (cost_of pass rows) x (drop (k + 1) rows)
+      let price : ℕ = put_cost (counted known x) (done pass known rows x) (permitted_on x.seed.slave rows) in
+      let due : cost_of pass known rows x ≡ 0 = ap (λ b. cond b (1 + price) 0) untouched in
+      let left : sum_by (cost_of pass known rows) (drop k rows) ≡ cost_of pass known rows x + sum_by (cost_of pass known rows) (drop (k + 1) rows) =
+      ap (sum_by (cost_of pass known rows)) (drop_found rows k x at) ∙ sum_by-cons (cost_of pass known rows) x (drop (k + 1) rows)
       in
       record {
         changed = is.changed ∙ midway_same (passed pass rows) same rows k x at stays;
@@ -196,7 +205,7 @@ module _ (pass : Pass) (known : List Mode) (rows : List Entry) (start k : ℕ) (
       let same_pair : found.0.seed ≡ seed = cc in
       let put = puts found.0 mid in (
         put_here found.0 (mode_in found.0.seed.master (known_after pass known)) (row_after pass table.entries found.0) next later found.1
-            (ap (touches pass) same_pair ∙ touched) put.placed refl refl put.entries put.tally (omega (arith, put.cost)),
+            (ap (touches pass) same_pair ∙ touched) put.placed refl refl put.entries put.tally put.cost,
         put.slaves,
         put.room,
       )
@@ -251,17 +260,24 @@ counted_done pass known rows (x ∷ xs) =
 pub record HasPassed (pass : Pass) (known : List Mode) (rows : List Entry) (start : ℕ) (table : Table) (steps : ℕ) : Type 0 where
   pub changed : table.entries ≡ map (passed pass rows) rows
   pub kept : AreTallied (map (counted (known_after pass known)) table.entries) table.tally
-  pub cost : steps ≤ start + sum_by (cost_of pass rows) rows
+  pub cost : steps ≡ start + sum_by (cost_of pass known rows) rows
+
+none_left : (xs : List Entry) → drop (length xs) xs ≡ []
+none_left [] = refl
+none_left (x ∷ xs) = none_left xs
 
 pub ends : (pass : Pass) (known : List Mode) (rows : List Entry) (start k : ℕ) (table : Table) (steps : ℕ)
     → IsPassing pass known rows start k table steps → k ≡ length rows → HasPassed pass known rows start table steps
 ends pass known rows start k table steps is end =
     let changed : table.entries ≡ map (passed pass rows) rows = is.changed ∙ midway_end (passed pass rows) same rows k end in
     let P : List Counted → Type 0 = λ cs. AreTallied cs table.tally in
+    let left : sum_by (cost_of pass known rows) (drop k rows) ≡ 0 =
+    ap (λ (n : ℕ). sum_by (cost_of pass known rows) (drop n rows)) end ∙ ap (sum_by (cost_of pass known rows)) (none_left rows)
+    in
     record {
       changed = changed;
       kept = subst P (midway_end (done pass known rows) (counted known) rows k end ∙ (counted_done pass known rows rows ∙ ap (map (counted (known_after pass known))) (sym changed))) is.kept;
-      cost = omega (arith, is.cost);
+      cost = omega (arith, left, is.cost);
     }
 
 -- ---- one pair
@@ -314,26 +330,52 @@ fewer m s (x ∷ xs) =
     at false true = omega arith
     at false false = omega arith
 
+moves_few : (a b : Bool) → moves a b ≤ 1
+moves_few true true = omega arith
+moves_few true false = omega arith
+moves_few false true = omega arith
+moves_few false false = omega arith
+
+limit_few : (b : Bool) (n : ℕ) → cond b 0 n ≤ n
+limit_few true n = omega arith
+limit_few false n = omega arith
+
+-- at most four counts change, and no row is read but those on the slave
+put_few : (x y : Counted) (n : ℕ) → put_cost x y n ≤ 4 + n
+put_few x y n =
+    omega (
+      arith,
+      moves_few (has 0 (required_by x.mode x.entry)) (has 0 (required_by y.mode y.entry)),
+      moves_few (has 1 (required_by x.mode x.entry)) (has 1 (required_by y.mode y.entry)),
+      moves_few (has 2 (required_by x.mode x.entry)) (has 2 (required_by y.mode y.entry)),
+      moves_few x.entry.row.used y.entry.row.used,
+      limit_few (is_same_limit (limit_by x.entry) (limit_by y.entry)) n,
+    )
+
 -- the change of the row of one pair costs at most twice the rows on its slave and four
-pub change_costs : (m s : ℕ) (by : Change) (rows : List Entry) → count_by (is_at m s) rows ≤ 1
-    → sum_by (cost_of (One m s by) rows) rows ≤ 2 * permitted_on s rows + 4
-change_costs m s by rows once =
+pub change_costs : (m s : ℕ) (by : Change) (known : List Mode) (rows : List Entry) → count_by (is_at m s) rows ≤ 1
+    → sum_by (cost_of (One m s by) known rows) rows ≤ 2 * permitted_on s rows + 4
+change_costs m s by known rows once =
     at (count_by (is_at m s) rows) refl once
-    (one_costs (is_at m s) (λ x. 5 + permitted_on x.seed.slave rows) (5 + permitted_on s rows) bound rows once)
-    (none_costs (is_at m s) (λ x. 5 + permitted_on x.seed.slave rows) rows)
+    (one_costs (is_at m s) price (5 + permitted_on s rows) bound rows once)
+    (none_costs (is_at m s) price rows)
     (fewer m s rows)
   where
-    bound : (x : Entry) → is_at m s x ≡ true → 5 + permitted_on x.seed.slave rows ≤ 5 + permitted_on s rows
+    price : Entry → ℕ
+    price x = 1 + put_cost (counted known x) (done (One m s by) known rows x) (permitted_on x.seed.slave rows)
+
+    bound : (x : Entry) → is_at m s x ≡ true → price x ≤ 5 + permitted_on s rows
     bound x is =
         let own : x.seed.slave ≡ s = eqb-true _ _ (has_both (x.seed.master == m) (x.seed.slave == s) is) in
         let alike : permitted_on x.seed.slave rows ≡ permitted_on s rows = ap (λ t. permitted_on t rows) own in
+        let few = put_few (counted known x) (done (One m s by) known rows x) (permitted_on x.seed.slave rows) in
         omega arith
 
     at : (n : ℕ) → count_by (is_at m s) rows ≡ n → n ≤ 1
-        → sum_by (cost_of (One m s by) rows) rows ≤ 5 + permitted_on s rows
-        → (count_by (is_at m s) rows ≡ 0 → sum_by (cost_of (One m s by) rows) rows ≡ 0)
+        → sum_by (cost_of (One m s by) known rows) rows ≤ 5 + permitted_on s rows
+        → (count_by (is_at m s) rows ≡ 0 → sum_by (cost_of (One m s by) known rows) rows ≡ 0)
         → count_by (is_at m s) rows ≤ permitted_on s rows
-        → sum_by (cost_of (One m s by) rows) rows ≤ 2 * permitted_on s rows + 4
+        → sum_by (cost_of (One m s by) known rows) rows ≤ 2 * permitted_on s rows + 4
     at zero is few most nothing some = let none = nothing is in omega arith
     at (suc n) is few most nothing some = omega arith
 

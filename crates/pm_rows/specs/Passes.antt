@@ -9,7 +9,9 @@ use Rattle.pm_rows.specs.declared.passes.Pass.TheVariants.{One, Settle, Shift, D
 use Rattle.pm_rows.specs.Rows.{applied, cleared}
 use Rattle.pm_rows.specs.Shift.{shifted_row, is_taken}
 use Rattle.pm_rows.specs.Sound.{is_plain}
-use Rattle.pm_rows.specs.Counted.{permitted_on}
+use Rattle.pm_rows.specs.Modes.{mode_in}
+use Rattle.pm_rows.specs.Counted.{Counted, counted, counted_in, permitted_on}
+use Rattle.pm_rows.specs.Cost.{put_cost}
 
 -- the rows of these pairs change
 abbrev pub touches : Pass → Pair → Bool
@@ -45,6 +47,12 @@ known_after (Shift m from to) known = slice_set known m to
 known_after (DropSlave s) known = known
 known_after Clear known = known
 
--- what the change of a row costs: it is read, at most four counts change, and the rows on its slave are read
-abbrev pub cost_of : Pass → List Entry → Entry → ℕ
-cost_of pass entries entry = cond (touches pass entry.seed) (5 + permitted_on entry.seed.slave entries) 0
+-- a row as it is counted after the pass
+abbrev pub done : Pass → List Mode → List Entry → Entry → Counted
+done pass known entries entry = counted_in (mode_in entry.seed.master (known_after pass known)) (passed pass entries entry)
+
+-- what the change of a row costs: it is read and put
+abbrev pub cost_of : Pass → List Mode → List Entry → Entry → ℕ
+cost_of pass known entries entry =
+    cond (touches pass entry.seed)
+    (1 + put_cost (counted known entry) (done pass known entries entry) (permitted_on entry.seed.slave entries)) 0

@@ -1,5 +1,5 @@
 -- A list in the middle of a pass: what is done, and what is left.
-use Rattle.std.specs.Prelude.{◌≡◌, ℕ, ◌+◌, ◌<◌, ◌≤◌, ◌^◌, List, Some, length, slice_get, slice_set, sum_by}
+use Rattle.std.specs.Prelude.{◌≡◌, ℕ, ◌+◌, ◌<◌, ◌^◌, List, Some, length, slice_get, slice_set, sum_by}
 use Rattle.std.specs.Prelude.{drop}
 use Rattle.pm_cells.specs.Midway.{midway}
 use Rattle.pm_base.specs.declared.names.Mode.{Mode}
@@ -7,14 +7,11 @@ use Rattle.pm_rows.specs.declared.row.Entry.{Entry}
 use Rattle.pm_rows.specs.declared.passes.Pass.{Pass}
 use Rattle.pm_rows.specs.Modes.{mode_in}
 use Rattle.pm_rows.specs.Counted.{AreReady, Counted, Table, AreTallied, counted, counted_in, limit_of, moved, permitted_on}
-use Rattle.pm_rows.specs.Passes.{passed, known_after, row_after, cost_of}
+use Rattle.pm_rows.specs.Passes.{passed, known_after, row_after, cost_of, done}
+use Rattle.pm_rows.specs.Cost.{put_cost}
 
 abbrev pub same : Entry → Entry
 same entry = entry
-
--- a row as it is counted after the pass
-abbrev pub done : Pass → List Mode → List Entry → Entry → Counted
-done pass known entries entry = counted_in (mode_in entry.seed.master (known_after pass known)) (passed pass entries entry)
 
 -- a row may be put in place of this one: what is counted of it may be changed, and the least latency on its slave is kept
 pub record MayPut (x : Counted) (table : Table) : Type 0 where
@@ -34,7 +31,7 @@ pub record IsPut (k : ℕ) (x y : Counted) (before : Table) (start : ℕ) (after
   pub tally : after.tally ≡ moved x y after.entries before.tally
   pub slaves : after.slaves ≡ before.slaves
   pub room : after.room ≡ before.room
-  pub cost : steps ≤ start + (5 + permitted_on x.entry.seed.slave before.entries)
+  pub cost : steps ≡ start + 1 + put_cost x y (permitted_on x.entry.seed.slave before.entries)
 
 -- the row at place k is as a pass makes it, and counted in the mode that its master has afterwards
 abbrev pub PutsAt : Pass → List Mode → ℕ → (before : Table) → (start : ℕ) → (after : Table) → (steps : ℕ) → Type 0
@@ -43,12 +40,12 @@ PutsAt pass known k before start after steps =
     → IsPut k (counted known x)
     (counted_in (mode_in x.seed.master (known_after pass known)) (record x { row = row_after pass before.entries x })) before start after steps
 
--- before place k the rows are as after the pass and counted in the modes then, from there on as before it, and no more was
--- read and counted than the rows before place k cost
+-- before place k the rows are as after the pass and counted in the modes then, from there on as before it, and what was read
+-- and counted is what the rows before place k cost
 pub record IsPassing (pass : Pass) (known : List Mode) (rows : List Entry) (start k : ℕ) (table : Table) (steps : ℕ) : Type 0 where
   pub changed : table.entries ≡ midway (passed pass rows) same k rows
   pub kept : AreTallied (midway (done pass known rows) (counted known) k rows) table.tally
-  pub cost : steps + sum_by (cost_of pass rows) (drop k rows) ≤ start + sum_by (cost_of pass rows) rows
+  pub cost : steps + sum_by (cost_of pass known rows) (drop k rows) ≡ start + sum_by (cost_of pass known rows) rows
 
 -- the master of the row at place k changes its mode: it is in mode `from` by the modes that are known, and in mode `to` once that
 -- of the master at place m is set

@@ -2,6 +2,7 @@
 
 ghost use Rattle.std.specs.Prelude.{◌≡◌, ◌+◌, ◌≤◌, ◌==◌, ◌&&◌, ◌<◌, false, is_some, length, true};
 ghost use Rattle.std.specs.Int.{bit_at};
+ghost use Rattle.pm_rows.specs.Cost.{caps_cost, moves};
 ghost use Rattle.pm_rows.specs.Counted.{IsReady, flag, has, moved_count};
 ghost use Rattle.pm_rows.specs.Wanted.{arming_differs, required_by};
 
@@ -30,7 +31,7 @@ pub(crate) fn follow<L: Ledger>(
     requires { IsReady place before counts.old }
     ensures count { counts.new ≡ moved_count place before after counts.old }
     ensures places { length counts.new ≡ length counts.old }
-    ensures steps { steps.new ≤ steps.old + 1 }
+    ensures steps { steps.new ≡ steps.old + moves before after }
 {
     match (before, after) {
         (true, false) => counts.sub(place, steps),
@@ -53,7 +54,7 @@ pub(crate) fn follow_capability<L: Ledger>(
     requires ready { IsReady place (has bit before) counts.old }
     ensures count { counts.new ≡ moved_count place (has bit before) (has bit after) counts.old }
     ensures places { length counts.new ≡ length counts.old }
-    ensures steps { steps.new ≤ steps.old + 1 }
+    ensures steps { steps.new ≡ steps.old + moves (has bit before) (has bit after) }
 {
     follow(counts, place, has(before, bit), has(after, bit), steps);
 }
@@ -74,7 +75,7 @@ pub(crate) fn follow_wants<L: Ledger>(
     ensures access { access.new ≡ moved_count place (has 0 before) (has 0 after) access.old }
     ensures context { context.new ≡ moved_count place (has 1 before) (has 1 after) context.old }
     ensures wakeup { wakeup.new ≡ moved_count place (has 2 before) (has 2 after) wakeup.old }
-    ensures steps { steps.new ≤ steps.old + 3 }
+    ensures steps { steps.new ≡ steps.old + caps_cost before after }
 {
     if before.0 != after.0 {
         follow_capability(access, place, 0, before, after, steps);
@@ -133,7 +134,7 @@ pub(crate) fn follow_needs<L: Ledger>(
         ≡ moved_count before.seed.slave (has 1 (required_by from before)) (has 1 (required_by to after)) context.old }
     ensures wakeup { wakeup.new
         ≡ moved_count before.seed.slave (has 2 (required_by from before)) (has 2 (required_by to after)) wakeup.old }
-    ensures steps { steps.new ≤ steps.old + 3 }
+    ensures steps { steps.new ≡ steps.old + caps_cost (required_by from before) (required_by to after) }
 {
     if !needs_alike(before, from, after, to) {
         let needed = before.required_by(from);

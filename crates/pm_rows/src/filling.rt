@@ -8,8 +8,7 @@ use crate::modes::mode_in;
 use crate::row::{Entry, RowSeed};
 use crate::table::Table;
 use pm_base::{Mode, Steps};
-use std::marker::Brand;
-use std::sync::ledger::{Blank, Ledger};
+use std::sync::ledger::Ledger;
 
 fn seed_at(seeds: &[RowSeed], k: usize) -> RowSeed
     requires { k < length seeds.now }
@@ -19,7 +18,12 @@ fn seed_at(seeds: &[RowSeed], k: usize) -> RowSeed
 }
 
 /// Makes each row what its seed says, and counts it in the mode of its master. None of them is used before.
-fn fill_over<L: Ledger>(table: &mut Table, known: &[Mode], seeds: &[RowSeed], steps: &mut Steps<L>)
+pub(crate) fn fill<L: Ledger>(
+    table: &mut Table,
+    known: &[Mode],
+    seeds: &[RowSeed],
+    steps: &mut Steps<L>,
+)
     requires rows { table.old.entries ≡ map blank_entry (map pair_of seeds.now) }
     requires counted { AreTallied (map (counted known.now) table.old.entries) table.old.tally }
     ensures rows { table.new.entries ≡ map loaded_entry seeds.now }
@@ -34,31 +38,4 @@ fn fill_over<L: Ledger>(table: &mut Table, known: &[Mode], seeds: &[RowSeed], st
         let loaded = Entry::loaded(seed);
         table.put(k, entry, mode, loaded.row, mode, steps);
     }
-}
-
-/// The same with a counter that is thrown away.
-fn fill_uncounted<L: Ledger>(table: &mut Table, known: &[Mode], seeds: &[RowSeed], blank: Blank)
-    requires rows { table.old.entries ≡ map blank_entry (map pair_of seeds.now) }
-    requires counted { AreTallied (map (counted known.now) table.old.entries) table.old.tally }
-    requires name { blank.name ≡ L.name }
-    requires parts { blank.parts ≡ L.parts }
-    requires some { 0 < blank.parts }
-    ensures rows { table.new.entries ≡ map loaded_entry seeds.now }
-    ensures counted { AreTallied (map (counted known.now) table.new.entries) table.new.tally }
-    ensures slaves { table.new.slaves ≡ table.old.slaves }
-    ensures room { table.new.room ≡ table.old.room }
-{
-    fill_over(table, known, seeds, &mut Steps::<L>::new(blank));
-}
-
-/// The same where nothing bounds how many rows are read.
-pub(crate) fn fill(table: &mut Table, known: &[Mode], seeds: &[RowSeed])
-    requires rows { table.old.entries ≡ map blank_entry (map pair_of seeds.now) }
-    requires counted { AreTallied (map (counted known.now) table.old.entries) table.old.tally }
-    ensures rows { table.new.entries ≡ map loaded_entry seeds.now }
-    ensures counted { AreTallied (map (counted known.now) table.new.entries) table.new.tally }
-    ensures slaves { table.new.slaves ≡ table.old.slaves }
-    ensures room { table.new.room ≡ table.old.room }
-{
-    fill_uncounted::<Brand>(table, known, seeds, Blank::new(1));
 }

@@ -3,15 +3,12 @@
 #![tactic(auto)]
 
 mod counting;
-#[cfg(test)]
-mod fields;
 mod filling;
 mod fitting;
 mod laws;
 mod modes;
 mod passes;
 mod passing;
-mod peek;
 pub mod row;
 pub mod rows;
 mod seeking;
@@ -23,5 +20,5 @@ pub mod wanted;
 
 pub use laws::{rows_know_modes, rows_stay_sound, shifts_leave_others};
 pub use row::{Change, Entry, Pair, Row, RowSeed};
-pub use rows::Rows;
+pub use rows::{Rows, are_placed};
 pub use wanted::Wanted;

@@ -1,6 +1,6 @@
 //! A pass over all rows, which keeps the counts.
 
-ghost use Rattle.std.specs.Prelude.{◌≡◌, ℕ, ◌+◌, ◌<◌, ◌≤◌, length, map, slice_set, sum_by};
+ghost use Rattle.std.specs.Prelude.{◌≡◌, ℕ, ◌+◌, ◌<◌, length, map, slice_set, sum_by};
 ghost use Rattle.pm_rows.specs.declared.passes.Pass.TheVariants.{One};
 ghost use Rattle.pm_rows.specs.declared.row.Change.TheVariants.{Arm, Limit, Release, Request, Set};
 ghost use Rattle.pm_rows.specs.Modes.{mode_in};
@@ -17,8 +17,7 @@ use crate::seeking::{Sought, is_found};
 use crate::shift::{is_start, shifted_row};
 use crate::table::Table;
 use pm_base::{Caps, Mode, NodeId, Steps};
-use std::marker::Brand;
-use std::sync::ledger::{Blank, Ledger};
+use std::sync::ledger::Ledger;
 
 /// The mode of a master where the one at place `m` is set to a mode.
 fn mode_set(known: &[Mode], m: usize, to: Mode, master: usize) -> Mode
@@ -246,7 +245,7 @@ pub(crate) fn pass_over<L: Ledger>(
     ensures counted { AreTallied (map (counted (known_after pass known.now)) table.new.entries) table.new.tally }
     ensures slaves { table.new.slaves ≡ table.old.slaves }
     ensures room { table.new.room ≡ table.old.room }
-    ensures cost { steps.new ≤ steps.old + sum_by (cost_of pass table.old.entries) table.old.entries }
+    ensures cost { steps.new ≡ steps.old + sum_by (cost_of pass known.now table.old.entries) table.old.entries }
 {
     let (first, past) = cover(table, pass);
     for k in first..past {
@@ -255,31 +254,4 @@ pub(crate) fn pass_over<L: Ledger>(
             pass_at(table, k, known, pass, steps);
         }
     }
-}
-
-/// The same with a counter that is thrown away.
-#[inline(always)]
-fn pass_uncounted<L: Ledger>(table: &mut Table, known: &[Mode], pass: Pass, blank: Blank)
-    requires counted { AreTallied (map (counted known.now) table.old.entries) table.old.tally }
-    requires name { blank.name ≡ L.name }
-    requires parts { blank.parts ≡ L.parts }
-    requires some { 0 < blank.parts }
-    ensures rows { table.new.entries ≡ map (passed pass table.old.entries) table.old.entries }
-    ensures counted { AreTallied (map (counted (known_after pass known.now)) table.new.entries) table.new.tally }
-    ensures slaves { table.new.slaves ≡ table.old.slaves }
-    ensures room { table.new.room ≡ table.old.room }
-{
-    pass_over(table, known, pass, &mut Steps::<L>::new(blank));
-}
-
-/// The same where nothing bounds how many rows are read.
-#[inline(always)]
-pub(crate) fn pass_all(table: &mut Table, known: &[Mode], pass: Pass)
-    requires { AreTallied (map (counted known.now) table.old.entries) table.old.tally }
-    ensures rows { table.new.entries ≡ map (passed pass table.old.entries) table.old.entries }
-    ensures counted { AreTallied (map (counted (known_after pass known.now)) table.new.entries) table.new.tally }
-    ensures slaves { table.new.slaves ≡ table.old.slaves }
-    ensures room { table.new.room ≡ table.old.room }
-{
-    pass_uncounted::<Brand>(table, known, pass, Blank::new(1));
 }

@@ -1,9 +1,9 @@
 //! The rows of the book: one for each pair of a master and a slave that the object permits.
 
-ghost use Rattle.std.specs.Prelude.{◌≡◌, ◌-◌, ◌<◌, ◌≤◌, ◌^◌, IsTrue, min, length, slice_get, Some, IfOk};
+ghost use Rattle.std.specs.Prelude.{◌≡◌, ◌+◌, ◌-◌, ◌<◌, ◌≤◌, ◌^◌, IsTrue, min, length, slice_get, Some, IfOk};
 ghost use Rattle.std.specs.List.{list_all};
 ghost use Rattle.pm_rows.specs.declared.row.Change.TheVariants.{Request, Release, Set, Limit, Arm};
-ghost use Rattle.pm_rows.specs.Cost.{IsCheap};
+ghost use Rattle.pm_rows.specs.Cost.{IsCheap, change_cost};
 ghost use Rattle.pm_rows.specs.Counted.{is_placed_seed};
 ghost use Rattle.pm_rows.specs.Rows.{mode_of, loaded_rows, remade, row_changed, settled, slave_dropped, all_cleared, entry_at, row_at, rival_of, users_of, usage_of};
 ghost use Rattle.pm_rows.specs.Shift.{shifted};
@@ -12,7 +12,7 @@ ghost use Rattle.pm_rows.specs.Wanted.{wanted_of};
 use crate::filling::fill;
 use crate::modes::{loaded_modes, mode_in, set_mode};
 use crate::passes::Pass;
-use crate::passing::{pass_all, pass_over};
+use crate::passing::pass_over;
 use crate::row::{Change, Entry, Row, RowSeed};
 use crate::seeking::{Sought, found, users};
 use crate::table::Table;
@@ -23,8 +23,8 @@ use std::alloc::Global;
 use std::marker::Model;
 use std::sync::ledger::Ledger;
 
-/// Whether the slave of each of these pairs is one of so many.
-fn are_placed(slaves: usize, seeds: &[RowSeed]) -> bool
+/// Whether the slave of each of these pairs is one of so many: the condition of rows that are loaded or made anew.
+pub fn are_placed(slaves: usize, seeds: &[RowSeed]) -> bool
     ensures { result ≡ list_all (is_placed_seed slaves) seeds.now }
 {
     seeds.iter().all(|seed| seed.slave < slaves)
@@ -61,26 +61,35 @@ impl Rows {
     ///
     /// # Errors
     ///
-    /// `NoMemory` where there is not enough memory, or no room for a pair: its slave isn't one of these
-    /// `slaves`, there are more pairs than `pairs`, or `pairs` is 2^31 or more.
-    pub fn load(
+    /// `NoMemory` if there is not enough memory. Room for 2^31 pairs and more is taken to be too much.
+    pub fn load<L: Ledger>(
         alloc: Global,
         masters: usize,
         slaves: usize,
         boot: usize,
         pairs: usize,
         seeds: &[RowSeed],
+        steps: &mut Steps<L>,
     ) -> Result<Rows, NoMemory>
+        requires room { length seeds.now ≤ pairs }
+        requires placed { IsTrue (list_all (is_placed_seed slaves) seeds.now) }
         ensures { IfOk result (λ rows. rows ≡ loaded_rows masters slaves boot pairs seeds.now) }
     {
-        if pairs >= 1 << 31 || pairs < seeds.len() || !are_placed(slaves, seeds) {
+        if pairs >= 1 << 31 {
             return Err(NoMemory);
         }
         let mut table = Table::blank(alloc, slaves, pairs)?;
         table.refit(seeds);
         let known = loaded_modes(alloc, masters, boot)?;
-        fill(&mut table, &known, seeds);
+        fill(&mut table, &known, seeds, steps);
         Ok(Rows { table, known })
+    }
+
+    /// Names each field by a pattern that has no rest: the rows are in the table alone, beside the modes. A further field
+    /// has to be named here.
+    pub fn name_fields(&self) {
+        let Rows { table, known: _ } = self;
+        table.name_fields();
     }
 
     /// The mode that the rows know of a master, and off for a master that isn't there.
@@ -144,6 +153,7 @@ impl Rows {
         steps: &mut Steps<L>,
     )
         ensures rows { self.new ≡ row_changed master slave by self.old }
+        ensures counted { steps.new ≡ steps.old + change_cost master slave by self.old }
         ensures cost { IsCheap master slave self.old steps.old steps.new }
     {
         pass_over(
@@ -164,6 +174,7 @@ impl Rows {
         steps: &mut Steps<L>,
     )
         ensures rows { self.new ≡ row_changed master slave (Request caps) self.old }
+        ensures counted { steps.new ≡ steps.old + change_cost master slave (Request caps) self.old }
         ensures cost { IsCheap master slave self.old steps.old steps.new }
     {
         self.change(master, slave, Change::Request(caps), steps);
@@ -173,6 +184,7 @@ impl Rows {
     /// PM_RELEASE_NODE).
     pub fn release<L: Ledger>(&mut self, master: usize, slave: usize, steps: &mut Steps<L>)
         ensures rows { self.new ≡ row_changed master slave Release self.old }
+        ensures counted { steps.new ≡ steps.old + change_cost master slave Release self.old }
         ensures cost { IsCheap master slave self.old steps.old steps.new }
     {
         self.change(master, slave, Change::Release, steps);
@@ -182,6 +194,7 @@ impl Rows {
     /// sleep on while it is suspending (UG1200, PM_SET_REQUIREMENT).
     pub fn set<L: Ledger>(&mut self, master: usize, slave: usize, caps: Caps, steps: &mut Steps<L>)
         ensures rows { self.new ≡ row_changed master slave (Set (mode_of master self.old) caps) self.old }
+        ensures counted { steps.new ≡ steps.old + change_cost master slave (Set (mode_of master self.old) caps) self.old }
         ensures cost { IsCheap master slave self.old steps.old steps.new }
     {
         let mode = self.mode(master);
@@ -197,61 +210,66 @@ impl Rows {
         steps: &mut Steps<L>,
     )
         ensures rows { self.new ≡ row_changed master slave (Limit latency) self.old }
+        ensures counted { steps.new ≡ steps.old + change_cost master slave (Limit latency) self.old }
         ensures cost { IsCheap master slave self.old steps.old steps.new }
     {
         self.change(master, slave, Change::Limit(latency), steps);
     }
 
     /// The slave's interrupt wakes this processor of the master, or none (UG1200, PM_SET_WAKEUP_SOURCE).
-    pub fn arm(&mut self, master: usize, slave: usize, target: Option<NodeId>)
-        ensures { self.new ≡ row_changed master slave (Arm target) self.old }
+    pub fn arm<L: Ledger>(
+        &mut self,
+        master: usize,
+        slave: usize,
+        target: Option<NodeId>,
+        steps: &mut Steps<L>,
+    )
+        ensures rows { self.new ≡ row_changed master slave (Arm target) self.old }
+        ensures counted { steps.new ≡ steps.old + change_cost master slave (Arm target) self.old }
+        ensures cost { IsCheap master slave self.old steps.old steps.new }
     {
-        pass_all(
-            &mut self.table,
-            &self.known,
-            Pass::One(master, slave, Change::Arm(target)),
-        );
+        self.change(master, slave, Change::Arm(target), steps);
     }
 
     /// Drops each hold of a master (UG1200, PM_INIT_FINALIZE).
-    pub fn settle(&mut self, master: usize)
+    pub fn settle<L: Ledger>(&mut self, master: usize, steps: &mut Steps<L>)
         ensures { self.new ≡ settled master self.old }
     {
-        pass_all(&mut self.table, &self.known, Pass::Settle(master));
+        pass_over(&mut self.table, &self.known, Pass::Settle(master), steps);
     }
 
     /// The master's mode is `to` from now on, and its rows change as that change of its mode asks.
-    pub fn shift(&mut self, master: usize, to: Mode)
+    pub fn shift<L: Ledger>(&mut self, master: usize, to: Mode, steps: &mut Steps<L>)
         ensures { self.new ≡ shifted master to self.old }
     {
         let from = mode_in(&self.known, master);
-        shift_all(&mut self.table, &self.known, master, from, to);
+        shift_all(&mut self.table, &self.known, master, from, to, steps);
         set_mode(&mut self.known, master, to);
     }
 
     /// Clears all rows on a slave but for their presets.
-    pub fn drop_slave(&mut self, slave: usize)
+    pub fn drop_slave<L: Ledger>(&mut self, slave: usize, steps: &mut Steps<L>)
         ensures { self.new ≡ slave_dropped slave self.old }
     {
-        pass_all(&mut self.table, &self.known, Pass::DropSlave(slave));
+        pass_over(&mut self.table, &self.known, Pass::DropSlave(slave), steps);
     }
 
     /// Clears all rows but for their presets.
-    pub fn clear(&mut self)
+    pub fn clear<L: Ledger>(&mut self, steps: &mut Steps<L>)
         ensures { self.new ≡ all_cleared self.old }
     {
-        pass_all(&mut self.table, &self.known, Pass::Clear);
+        pass_over(&mut self.table, &self.known, Pass::Clear, steps);
     }
 
     /// All rows are made anew: one for each seed. The modes that are known stay. No memory is taken.
-    pub fn reload(&mut self, seeds: &[RowSeed])
+    pub fn reload<L: Ledger>(&mut self, seeds: &[RowSeed], steps: &mut Steps<L>)
         requires room { length seeds.now ≤ self.old.room }
         requires placed { IsTrue (list_all (is_placed_seed self.old.slaves) seeds.now) }
         ensures { self.new ≡ remade seeds.now self.old }
     {
-        pass_all(&mut self.table, &self.known, Pass::Clear);
+        pass_over(&mut self.table, &self.known, Pass::Clear, steps);
         self.table.refit(seeds);
-        fill(&mut self.table, &self.known, seeds);
+        fill(&mut self.table, &self.known, seeds, steps);
     }
 
     /// The requirements in force on a slave.

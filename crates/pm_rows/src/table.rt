@@ -3,12 +3,12 @@
 ghost use Rattle.std.specs.Prelude.{◌≡◌, ◌+◌, ◌≤◌, ◌<◌, ◌^◌, ◌&&◌, IsTrue, fold, map, length, slice_get, slice_set, slice_index, Some, None};
 ghost use Rattle.std.specs.List.{list_all};
 ghost use Rattle.std.specs.Option.{option_map};
+ghost use Rattle.pm_rows.specs.Cost.{limit_cost, put_cost};
 ghost use Rattle.pm_rows.specs.Counted.{AreReady, AreTallied, counted, counted_in, is_narrow, is_placed, limit_of, moved, permitted_on, wanted_in};
 ghost use Rattle.pm_rows.specs.Spans.{IsSpan};
 ghost use Rattle.pm_rows.specs.Wanted.{nothing_wanted, with_row};
 
 use crate::counting::{flag, follow, follow_needs, follow_wants};
-use crate::peek::peek;
 use crate::row::{Entry, Pair, Row};
 use crate::spans::Spans;
 use crate::wanted::{Wanted, least, with_row};
@@ -81,6 +81,23 @@ fn stays_narrow(narrow: bool, caps: Caps) -> bool
 }
 
 impl Table {
+    /// Names each field by a pattern that has no rest: what a row is now stands in the cells and counts alone. The pairs,
+    /// their places and whether all capabilities were known ones are beside them, with the room.
+    pub(crate) fn name_fields(&self) {
+        let Table {
+            seeds: _,
+            room: _,
+            spans: _,
+            narrow: _,
+            cells: _,
+            access: _,
+            context: _,
+            wakeup: _,
+            users: _,
+            limits: _,
+        } = self;
+    }
+
     /// The number of rows.
     pub(crate) fn len(&self) -> usize
         ensures len { result ≡ length self.now.entries }
@@ -118,7 +135,7 @@ impl Table {
     {
         Entry {
             seed: pair_at(self.seeds.as_slice(), k),
-            row: peek(&self.cells, k),
+            row: self.cells.value(k),
         }
     }
 
@@ -159,10 +176,10 @@ impl Table {
         requires kept { before ≡ after → slice_get self.now.tally.limits slave
             ≡ Some (limit_of slave self.now.entries) }
         ensures limit { result ≡ limit_of slave self.now.entries }
-        ensures steps { steps.new ≤ steps.old + permitted_on slave self.now.entries }
+        ensures steps { steps.new ≡ steps.old + limit_cost before after (permitted_on slave self.now.entries) }
     {
         if before == after {
-            peek(&self.limits, slave)
+            self.limits.value(slave)
         } else {
             self.limit_on(slave, steps)
         }
@@ -190,7 +207,9 @@ impl Table {
             self.new.entries self.old.tally }
         ensures slaves { self.new.slaves ≡ self.old.slaves }
         ensures room { self.new.room ≡ self.old.room }
-        ensures steps { steps.new ≤ steps.old + (4 + permitted_on entry.seed.slave self.old.entries) }
+        ensures steps { steps.new ≡ steps.old
+            + put_cost (counted_in from entry) (counted_in to (record entry { row = row }))
+            (permitted_on entry.seed.slave self.old.entries) }
     {
         let slave = entry.seed.slave;
         let put = Entry { row, ..entry };
@@ -233,7 +252,9 @@ impl Table {
             self.new.entries self.old.tally }
         ensures slaves { self.new.slaves ≡ self.old.slaves }
         ensures room { self.new.room ≡ self.old.room }
-        ensures steps { steps.new ≤ steps.old + (4 + permitted_on entry.seed.slave self.old.entries) }
+        ensures steps { steps.new ≡ steps.old
+            + put_cost (counted_in from entry) (counted_in to (record entry { row = row }))
+            (permitted_on entry.seed.slave self.old.entries) }
     {
         let put = Entry { row, ..entry };
         self.cells.write(k, row);
@@ -277,7 +298,7 @@ impl Table {
                     flag(self.access.value(slave), 1)
                         + (flag(self.context.value(slave), 2) + flag(self.wakeup.value(slave), 4)),
                 ),
-                limit: peek(&self.limits, slave),
+                limit: self.limits.value(slave),
             }
         } else {
             Wanted {

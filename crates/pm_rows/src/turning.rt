@@ -9,13 +9,12 @@ ghost use Rattle.pm_rows.specs.Passes.{passed};
 ghost use Rattle.pm_rows.specs.Passing.{MayPutAt, PutsAt, Turns};
 
 use crate::passes::Pass;
-use crate::passing::pass_all;
+use crate::passing::pass_over;
 use crate::shift::{is_calm, turned_row};
 use crate::table::Table;
 use crate::wanted::arming_differs;
 use pm_base::{Mode, Steps};
-use std::marker::Brand;
-use std::sync::ledger::{Blank, Ledger};
+use std::sync::ledger::Ledger;
 
 /// Puts the row at a place as the calm change of its master's mode asks, and counts it in the mode that its master has
 /// afterwards. A row that rests is left.
@@ -69,34 +68,16 @@ fn turn_over<L: Ledger>(
     }
 }
 
-/// The same with a counter that is thrown away.
+/// The rows of a master follow a change of its mode, which is calm or not.
 #[inline(always)]
-fn turn_uncounted<L: Ledger>(
+pub(crate) fn shift_all<L: Ledger>(
     table: &mut Table,
     known: &[Mode],
     m: usize,
     from: Mode,
     to: Mode,
-    blank: Blank,
+    steps: &mut Steps<L>,
 )
-    requires tallied { AreTallied (map (counted known.now) table.old.entries) table.old.tally }
-    requires calm { is_calm from to ≡ true }
-    requires there { m < length known.now }
-    requires mode { mode_in m known.now ≡ from }
-    requires name { blank.name ≡ L.name }
-    requires parts { blank.parts ≡ L.parts }
-    requires some { 0 < blank.parts }
-    ensures rows { table.new.entries ≡ map (passed (Shift m from to) table.old.entries) table.old.entries }
-    ensures counted { AreTallied (map (counted (slice_set known.now m to)) table.new.entries) table.new.tally }
-    ensures slaves { table.new.slaves ≡ table.old.slaves }
-    ensures room { table.new.room ≡ table.old.room }
-{
-    turn_over(table, known, m, from, to, &mut Steps::<L>::new(blank));
-}
-
-/// The rows of a master follow a change of its mode, which is calm or not. Nothing bounds how many rows are read.
-#[inline(always)]
-pub(crate) fn shift_all(table: &mut Table, known: &[Mode], m: usize, from: Mode, to: Mode)
     requires tallied { AreTallied (map (counted known.now) table.old.entries) table.old.tally }
     requires mode { mode_in m known.now ≡ from }
     ensures rows { table.new.entries ≡ map (passed (Shift m from to) table.old.entries) table.old.entries }
@@ -105,8 +86,8 @@ pub(crate) fn shift_all(table: &mut Table, known: &[Mode], m: usize, from: Mode,
     ensures room { table.new.room ≡ table.old.room }
 {
     if m < known.len() && is_calm(from, to) {
-        turn_uncounted::<Brand>(table, known, m, from, to, Blank::new(1));
+        turn_over(table, known, m, from, to, steps);
     } else {
-        pass_all(table, known, Pass::Shift(m, from, to));
+        pass_over(table, known, Pass::Shift(m, from, to), steps);
     }
 }

@@ -1,10 +1,9 @@
 -- The values of the units, by the rows and the processors as they are now.
-use Rattle.std.specs.Prelude.{ℕ, ◌+◌, ◌==◌, Bool, cond, List, [], ◌∷◌, ◌++◌, position, slice_get, Option, Some, None}
+use Rattle.std.specs.Prelude.{ℕ, ◌+◌, Bool, cond, List, [], ◌∷◌, ◌++◌, slice_get, Option, Some, None}
 use Rattle.pm_base.specs.declared.names.LineId.{LineId}
 use Rattle.pm_base.specs.declared.names.NodeId.{NodeId}
 use Rattle.pm_base.specs.declared.names.Unit.{Unit}
 use Rattle.pm_base.specs.declared.names.Unit.TheVariants.{Node, Line}
-use Rattle.pm_object.specs.declared.object.MasterRec.{MasterRec}
 use Rattle.pm_topology.specs.declared.topology.ProcDef.{ProcDef}
 use Rattle.pm_topology.specs.declared.topology.SlaveDef.{SlaveDef}
 use Rattle.pm_topology.specs.declared.places.Kind.{Kind}
@@ -12,6 +11,7 @@ use Rattle.pm_topology.specs.declared.places.Kind.TheVariants.{Proc, Slave, Powe
 use Rattle.pm_topology.specs.Places.{kind_of}
 use Rattle.pm_topology.specs.Places as places
 use Rattle.pm_topology.specs.Units.{needs_in}
+use Rattle.pm_grants.specs.Laws as grants
 use Rattle.pm_power.specs.declared.child.Child.{Child}
 use Rattle.pm_power.specs.Forest.{Needs, is_up}
 use Rattle.pm_power.specs.Needs.{child}
@@ -28,7 +28,7 @@ slave_place node book = places.slave_place book.fixed.topology.slaves node.0
 
 -- the place of a configured master in the object
 abbrev pub master_place : NodeId → State → Option ℕ
-master_place node book = position (λ (master : MasterRec). master.node == node.0) book.fixed.object.masters
+master_place node book = grants.master_place book.fixed.object.masters node
 
 -- what is made of each entry of a list and its place; the first one stands at place k
 abbrev pub placed : {X Y : Type 0} → (ℕ → X → Y) → ℕ → List X → List Y

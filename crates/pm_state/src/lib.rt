@@ -3,6 +3,7 @@
 #![tactic(auto)]
 
 mod chip;
+mod counters;
 mod laws;
 mod load;
 mod members;

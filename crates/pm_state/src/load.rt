@@ -1,9 +1,11 @@
 //! The book at load.
 
-ghost use Rattle.std.specs.Prelude.{◌≡◌, ◌≤◌, IfOk, length, map, slice_get};
+ghost use Rattle.std.specs.Prelude.{◌≡◌, ◌≤◌, IfOk, IsTrue, length, map, slice_get};
+ghost use Rattle.std.specs.List.{list_all};
 ghost use Rattle.pm_procs.specs.Pending.{none_pending};
 ghost use Rattle.pm_procs.specs.Procs.{all_off, members_at};
 ghost use Rattle.pm_topology.specs.WellFormed.{IsWellFormed};
+ghost use Rattle.pm_rows.specs.Counted.{is_placed_seed};
 ghost use Rattle.pm_rows.specs.Rows.{loaded_rows};
 ghost use Rattle.pm_state.specs.Boot.{active_at_load, boot_proc};
 ghost use Rattle.pm_state.specs.Load.{IsHeld, IsRuled, load_of};
@@ -13,6 +15,7 @@ ghost use Rattle.pm_state.specs.Prims.{procs_with};
 ghost use Rattle.pm_state.specs.Sound.{IsSound};
 
 use crate::chip::Chip;
+use crate::counters::load as load_counted;
 use crate::laws::loads_are_sound;
 use crate::members::members_of;
 use crate::objects::objects_in;
@@ -194,14 +197,15 @@ fn load_rows(
     room: usize,
     pairs: &[Permitted],
 ) -> Result<(BoundedList<RowSeed>, Rows), NoMemory>
-    requires { length pairs.now ≤ room }
+    requires room { length pairs.now ≤ room }
+    requires placed { IsTrue (list_all (is_placed_seed slaves) (map (seed_at_load first) pairs.now)) }
     ensures room { IfOk result (λ both. both.0.room ≡ room) }
     ensures rows { IfOk result (λ both. both.1
         ≡ loaded_rows masters slaves first room (map (seed_at_load first) pairs.now)) }
 {
     let mut seeds = BoundedList::with_room(alloc, room)?;
     put_at_load(&mut seeds, first, pairs);
-    let rows = Rows::load(alloc, masters, slaves, first, room, seeds.as_slice());
+    let rows = load_counted(alloc, masters, slaves, first, room, seeds.as_slice());
     with(seeds, rows)
 }
 

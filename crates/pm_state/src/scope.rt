@@ -8,6 +8,7 @@ ghost use Rattle.pm_topology.specs.declared.topology.SlaveDef.{SlaveDef};
 ghost use Rattle.pm_state.specs.Prims.{changed, with_proc};
 ghost use Rattle.pm_state.specs.Scope as spec;
 
+use crate::counters::drop_slave;
 use crate::tables::Tables;
 use pm_base::{Mode, NodeId};
 use pm_topology::{Kind, kinds_are_exact};
@@ -125,7 +126,7 @@ impl Tables {
             → self.new ≡ changed (spec.clear_by self.old.fixed.topology kind s slave.node) self.old }
     {
         if self.is_slave_under(kind, s) {
-            self.rows.drop_slave(s);
+            drop_slave(&mut self.rows, s);
         }
     }
 

@@ -1,21 +1,20 @@
 //! The stages of a step: changes of the book, after which the rows follow the masters whose mode changed.
 
-ghost use Rattle.std.specs.Prelude.{◌≡◌, ◌<◌, ◌∷◌, [], length, replicate};
+ghost use Rattle.std.specs.Prelude.{◌≡◌, ◌∷◌, [], length, replicate};
 ghost use Rattle.pm_base.specs.declared.names.Mode.TheVariants.{Off};
 ghost use Rattle.pm_rows.specs.Modes.{loaded_modes};
 ghost use Rattle.pm_state.specs.Members.{mode_of_master, owner_at, owns, first_own};
 ghost use Rattle.pm_state.specs.Prims.{changed, with_proc, At_row, Enforce, Halt, Put_proc, Reload, Settle, Put_line};
 ghost use Rattle.pm_state.specs.Stages.{after_stage, follow_at, followed};
 
+use crate::counters::{change, clear, reload, settle, shift};
 use crate::load::{active_at_load, start};
 use crate::members::owner_at;
 use crate::seeds::{put_anew, put_at_load};
 use crate::tables::Tables;
-use pm_base::{Mode, Steps};
+use pm_base::Mode;
 use pm_procs::{Proc, same_mode};
 use pm_rows::{Change, Rows};
-use std::marker::Brand;
-use std::sync::ledger::{Blank, Ledger};
 
 /// Each master is off.
 fn put_all_off(rows: &mut Rows)
@@ -24,7 +23,7 @@ fn put_all_off(rows: &mut Rows)
     ensures room { rows.new.room ≡ rows.old.room }
 {
     for m in 0..rows.masters() {
-        rows.shift(m, Mode::Off);
+        shift(rows, m, Mode::Off);
     }
 }
 
@@ -35,7 +34,7 @@ fn know_load(rows: &mut Rows, first: usize)
     ensures room { rows.new.room ≡ rows.old.room }
 {
     put_all_off(rows);
-    rows.shift(first, Mode::Active);
+    shift(rows, first, Mode::Active);
 }
 
 impl Tables {
@@ -83,7 +82,7 @@ impl Tables {
     {
         let mode = self.mode_of_master(m);
         if !same_mode(self.rows.mode(m), mode) {
-            self.rows.shift(m, mode);
+            shift(&mut self.rows, m, mode);
         }
     }
 
@@ -100,26 +99,15 @@ impl Tables {
     pub fn row_stage(&mut self, master: usize, slave: usize, by: Change)
         ensures { self.new ≡ after_stage (At_row master slave by ∷ []) self.old }
     {
-        self.change_row::<Brand>(master, slave, by, Blank::new(1));
+        change(&mut self.rows, master, slave, by);
         self.follow();
-    }
-
-    /// Changes the row of a pair by a counted call of the rows, with a counter that is thrown away.
-    fn change_row<L: Ledger>(&mut self, master: usize, slave: usize, by: Change, blank: Blank)
-        requires name { blank.name ≡ L.name }
-        requires parts { blank.parts ≡ L.parts }
-        requires some { 0 < blank.parts }
-        ensures { self.new ≡ changed (At_row master slave by ∷ []) self.old }
-    {
-        self.rows
-            .change(master, slave, by, &mut Steps::<L>::new(blank));
     }
 
     /// The stage in which a master drops its holds.
     pub fn settle_stage(&mut self, master: usize)
         ensures { self.new ≡ after_stage (Settle master ∷ []) self.old }
     {
-        self.rows.settle(master);
+        settle(&mut self.rows, master);
         self.follow();
     }
 
@@ -134,7 +122,7 @@ impl Tables {
     pub fn halt(&mut self)
         ensures { self.new ≡ changed (Halt ∷ []) self.old }
     {
-        self.rows.clear();
+        clear(&mut self.rows);
         self.halted = true;
     }
 
@@ -151,7 +139,7 @@ impl Tables {
             self.policies.get(self.force).pairs.as_slice(),
         );
         know_load(&mut self.rows, first);
-        self.rows.reload(self.seeds.as_slice());
+        reload(&mut self.rows, self.seeds.as_slice());
         self.procs.put_all_off();
         start(&mut self.procs, boot);
         self.resets.restart();
@@ -169,7 +157,7 @@ impl Tables {
                 &self.rows,
                 self.policies.get(k).pairs.as_slice(),
             );
-            self.rows.reload(self.seeds.as_slice());
+            reload(&mut self.rows, self.seeds.as_slice());
             self.force = k;
         }
     }

@@ -91,6 +91,26 @@ impl Tables {
         let _chip = &self.topology;
     }
 
+    /// Names each field by a pattern that has no rest: the rows are in `rows` alone. A further field has to be named
+    /// here.
+    pub fn name_fields(&self) {
+        let Tables {
+            object: _,
+            attached: _,
+            objects: _,
+            policies: _,
+            force: _,
+            seeds: _,
+            topology: _,
+            rows,
+            procs: _,
+            notify: _,
+            resets: _,
+            halted: _,
+        } = self;
+        rows.name_fields();
+    }
+
     /// The number of configured masters.
     pub fn masters(&self) -> usize
         ensures { result ≡ length self.now.fixed.object.masters }

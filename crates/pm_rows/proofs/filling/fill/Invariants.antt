@@ -1,4 +1,5 @@
+use Rattle.pm_rows.specs.Filling.{IsFilling}
 use Rattle.pm_rows.proofs.filling.fill.Given as goal
 
-abbrev pub ghosts-fill_uncounted : goal.ghosts-fill_uncounted
-ghosts-fill_uncounted a = record { name = a.blank.name; parts = a.blank.parts }
+abbrev pub invariant-loop-k : goal.invariant-loop-k
+invariant-loop-k g l = IsFilling l.known l.seeds l.fn.table l.k l.table

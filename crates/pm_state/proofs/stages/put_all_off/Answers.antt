@@ -11,7 +11,7 @@ pub loop-m-preserved : goal.loop-m-preserved
 loop-m-preserved c =
     let within : c.loop-m.m < length c.args.rows.now.known = omega (arith, c.masters-m-end.ensures, c.loop-m-test.true) in
     record {
-      known = set_next Off c.loop-m.m c.args.rows.now.known c.loop-m.rows.known c.shift.new.self.known within c.loop-m.invariant.known (ap (λ (r : Rows). r.known) c.shift.ensures);
+      known = set_next Off c.loop-m.m c.args.rows.now.known c.loop-m.rows.known c.shift.new.rows.known within c.loop-m.invariant.known (ap (λ (r : Rows). r.known) c.shift.ensures);
       slaves = ap (λ (r : Rows). r.slaves) c.shift.ensures ∙ c.loop-m.invariant.slaves;
       room = ap (λ (r : Rows). r.room) c.shift.ensures ∙ c.loop-m.invariant.room;
     }

@@ -11,4 +11,4 @@ returns-clause-cost g c =
     → c.pass_over.new.steps ≤ c.args.steps.now + (2 * permitted_on c.args.slave rows.entries + 4)
     in
     subst P c.self.view_is
-    (λ once. let cost = change_costs c.args.master c.args.slave c.args.by c.self.inside.table.entries once in omega (arith, c.pass_over.ensures.cost, cost))
+    (λ once. let cost = change_costs c.args.master c.args.slave c.args.by c.deref.result.now c.self.inside.table.entries once in omega (arith, c.pass_over.ensures.cost, cost))

@@ -7,13 +7,13 @@ pair_at-requires c =
     let within = seen_within c.args.self.now c.self.inside.seeds.items c.self.inside.cells _ (length c.self.inside.users) _ _ c.self.view_is c.self.invariant.0.base c.args.k c.requires in
     omega (arith, within, ap length c.as_slice.ensures)
 
-pub peek-requires : goal.peek-requires
-peek-requires c =
+pub value-requires : goal.value-requires
+value-requires c =
     seen_cell c.args.self.now c.self.inside.seeds.items c.self.inside.cells _ (length c.self.inside.users) _ _ c.self.view_is c.self.invariant.0.base c.args.k c.requires
 
 pub returns : goal.returns
 returns c =
     let pair : slice_get c.self.inside.seeds.items c.args.k ≡ Some c.pair_at.result = ap (λ xs. slice_get xs c.args.k) (sym c.as_slice.ensures) ∙ c.pair_at.ensures in
-    seen_entry c.args.self.now c.self.inside.seeds.items c.self.inside.cells _ (length c.self.inside.users) _ _ c.self.view_is c.self.invariant.0.base c.args.k c.pair_at.result c.peek.result
+    seen_entry c.args.self.now c.self.inside.seeds.items c.self.inside.cells _ (length c.self.inside.users) _ _ c.self.view_is c.self.invariant.0.base c.args.k c.pair_at.result c.value.result
     pair
-    c.peek.ensures
+    c.value.ensures

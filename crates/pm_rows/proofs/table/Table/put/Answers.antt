@@ -1,7 +1,11 @@
-use Rattle.std.proofs.Common.{◌∙◌, Some, ap, length, arith, refl, slice_get, sym}
+use Rattle.std.proofs.Common.{◌≡◌, ◌∙◌, ℕ, Option, Some, ap, length, arith, refl, slice_get, sym}
 use Rattle.std.proofs.lemmas.List.{length-set}
 use Rattle.std.proofs.lemmas.Option.{slice_get_within}
+use Rattle.pm_base.specs.declared.caps.Caps.{Caps}
+use Rattle.pm_rows.specs.declared.row.Entry.{Entry}
+use Rattle.pm_rows.specs.Cost.{caps_cost, limit_cost}
 use Rattle.pm_rows.specs.Counted.{Table, is_on, limit_of, permitted_on, entries_of}
+use Rattle.pm_rows.specs.Wanted.{limit_by, required_by}
 use Rattle.pm_rows.proofs.Cells.{seen_cell, seen_put, kept_put}
 use Rattle.pm_rows.proofs.Tallies.{limit_same}
 use Rattle.pm_cells.proofs.Counting.{count_set}
@@ -50,4 +54,15 @@ returns-clause-steps g c =
     ∙ seen_put c.args.self.now c.self.inside.seeds.items c.self.inside.cells _ (length c.self.inside.users) _ _ c.self.view_is c.self.invariant.0.base
     c.args.k c.args.entry c.args.row c.requires.here) in
     let same = count_set (is_on c.args.entry.seed.slave) c.args.self.now.entries c.args.k c.args.entry (record c.args.entry { row = c.args.row }) c.requires.here in
-    omega (arith, put, same, c.limit_after-limit.ensures.steps, c.follow_wants.ensures.steps, c.follow.ensures.steps)
+    let next : Entry = record c.args.entry { row = c.args.row } in
+    let after : ℕ = permitted_on c.args.entry.seed.slave (entries_of c.self.inside.seeds.items c.write.new.self) in
+    let alike : after ≡ permitted_on c.args.entry.seed.slave c.args.self.now.entries = omega (arith, put, same) in
+    let wants : caps_cost c.required_by.result c.required_by-2.result ≡ caps_cost (required_by c.args.from c.args.entry) (required_by c.args.to next) =
+    ap (λ (a : Caps). caps_cost a c.required_by-2.result) c.required_by.ensures ∙ ap (caps_cost (required_by c.args.from c.args.entry)) c.required_by-2.ensures
+    in
+    let limits : limit_cost c.limit_by.result c.limit_by-2.result after
+    ≡ limit_cost (limit_by c.args.entry) (limit_by next) (permitted_on c.args.entry.seed.slave c.args.self.now.entries) =
+    ap (λ (a : Option ℕ). limit_cost a c.limit_by-2.result after) c.limit_by.ensures
+    ∙ (ap (λ (b : Option ℕ). limit_cost (limit_by c.args.entry) b after) c.limit_by-2.ensures ∙ ap (limit_cost (limit_by c.args.entry) (limit_by next)) alike)
+    in
+    omega (arith, wants, limits, c.limit_after-limit.ensures.steps, c.follow_wants.ensures.steps, c.follow.ensures.steps)

@@ -43,7 +43,7 @@ pub invariant_of-self : goal.invariant_of-self
 invariant_of-self c = (
   c.self.invariant.0,
   c.self.invariant.1,
-  keeps_after _ _ _ _ _ _ _ _ _ c.self.invariant.2 c.args.k c.put_anew.new.seeds.room c.reload.new.self.slaves c.reload.new.self.room (omega (arith, c.len.ensures, c.if-k-len.true))
+  keeps_after _ _ _ _ _ _ _ _ _ c.self.invariant.2 c.args.k c.put_anew.new.seeds.room c.reload.new.rows.slaves c.reload.new.rows.room (omega (arith, c.len.ensures, c.if-k-len.true))
       (ap (λ (b : Bounded RowSeed). b.room) c.put_anew.ensures)
       (ap (λ (r : Rows). r.slaves) c.reload.ensures)
       (ap (λ (r : Rows). r.room) c.reload.ensures),

@@ -1,7 +1,7 @@
 use Rattle.std.proofs.Common.{ap, arith}
 use Rattle.pm_rows.specs.declared.row.Entry.{Entry}
 use Rattle.pm_rows.proofs.Filled.{fill_ends, fill_limit, fill_next, fill_ready, fill_starts, fill_within}
-use Rattle.pm_rows.proofs.filling.fill_over.Goals as goal
+use Rattle.pm_rows.proofs.filling.fill.Goals as goal
 
 pub loop-k-init : goal.loop-k-init
 loop-k-init g c = fill_starts c.args.known.now c.args.seeds.now c.args.table.now c.requires.rows c.requires.counted
