@@ -12,7 +12,7 @@ use Rattle.pm_cells.proofs.Counting.{one_if, count_set, count_most, get_other}
 use Rattle.pm_topology.specs.declared.topology.PowerDef.{PowerDef}
 use Rattle.pm_power.specs.declared.child.Child.{Child}
 use Rattle.pm_power.specs.Forest.{is_parent, child_needs, power_needs, ups_from, AreAfterParents}
-use Rattle.pm_power.specs.Uses.{is_using_child, child_uses, power_uses, pending, AreCounted, AreWithin, with_need, counted_by, parent_of, chain, room, levels}
+use Rattle.pm_power.specs.Uses.{is_using_child, child_uses, power_uses, pending, AreCounted, AreWithin, with_need, counted_by, parent_of, chain, room, levels, changes}
 
 -- ---- lists
 
@@ -410,3 +410,10 @@ put_nothing children k child on here is =
     at [] k x here = cc
     at (y ∷ xs) zero x here = let same : y ≡ x = cc in ap (λ z. z ∷ xs) (sym same)
     at (y ∷ xs) (suc k) x here = ap (λ ys. y ∷ ys) (at xs k x here)
+
+-- a need that isn't as it was asked changes
+pub need_changes : (a b : Bool) → (a ≡ b → ⊥) → changes a b ≡ true
+need_changes true true apart = absurd (apart refl)
+need_changes true false apart = refl
+need_changes false true apart = refl
+need_changes false false apart = absurd (apart refl)

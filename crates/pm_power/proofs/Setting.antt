@@ -6,9 +6,13 @@ use Rattle.pm_base.proofs.ListLemmas.{drop_found}
 use Rattle.pm_base.specs.declared.names.NodeId.{NodeId}
 use Rattle.pm_topology.specs.declared.topology.PowerDef.{PowerDef}
 use Rattle.pm_power.specs.declared.child.Child.{Child}
-use Rattle.pm_power.specs.Uses.{IsForest, IsSetting, WasPut, with_need, levels, levels_of, same, AreCounted, AreWithin}
+use Rattle.pm_power.specs.Uses.{IsForest, IsSetting, WasPut, changes, need_cost, with_need, levels, levels_of, same, AreCounted, AreWithin}
 use Rattle.pm_power.specs.Needs.{set_child}
 use Rattle.pm_cells.proofs.Midway.{midway_get, midway_set, midway_same, midway_end, midway_len, map_same, there}
+
+cond_most : (b : Bool) (n : ℕ) → cond b n 0 ≤ n
+cond_most true n = omega arith
+cond_most false n = omega arith
 
 module _ (node : NodeId) (on : Bool) (powers : List PowerDef) (first : List Child) (start k : ℕ) (children : List Child) (counts : List ℕ) (ups : List Bool) (steps : ℕ)
     (is : IsSetting node on powers first start k children counts ups steps) where
@@ -36,7 +40,8 @@ module _ (node : NodeId) (on : Bool) (powers : List PowerDef) (first : List Chil
       ap (with_need on) child ∙ sym (ap (λ b. if b then with_need on c else c) own)
       in
       let due : levels_of powers node c ≡ levels powers (Some c.parent) = ap (λ b. cond b (levels powers (Some c.parent)) 0) own in
-      let cost : later ≤ steps + levels powers (Some c.parent) = (let P : Child → Type 0 = λ d. later ≤ steps + levels powers (Some d.parent) in subst P child put.cost) in
+      let cost : later ≤ steps + need_cost powers on c = (let P : Child → Type 0 = λ d. later ≤ steps + need_cost powers on d in subst P child put.cost) in
+      let most : need_cost powers on c ≤ levels powers (Some c.parent) = cond_most (changes c.needs on) (levels powers (Some c.parent)) in
       record {
         changed = put.put ∙ (ap (slice_set children k) set ∙ (ap (λ cs. slice_set cs k (set_child node on c)) is.changed ∙ midway_set (set_child node on) same first k c at));
         forest = record { counted = counted; within = within; after = is.forest.after };

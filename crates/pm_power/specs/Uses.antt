@@ -1,5 +1,5 @@
 -- How many uses each power node has.
-use Rattle.std.specs.Prelude.{◌≡◌, ℕ, zero, suc, ◌+◌, ◌-◌, ◌<◌, ◌≤◌, ◌^◌, ◌==◌, Bool, true, false, not, cond, nat_lt, ◌&&◌, ◌||◌, Option, Some, None, List, drop, sum_by, length, count_by, slice_get, slice_set, slice_index}
+use Rattle.std.specs.Prelude.{◌≡◌, ℕ, zero, suc, ◌+◌, ◌-◌, ◌<◌, ◌≤◌, ◌^◌, ◌==◌, Bool, true, false, not, cond, nat_lt, ◌&&◌, ◌||◌, Option, Some, None, List, [], ◌∷◌, drop, sum_by, length, count_by, slice_get, slice_set, slice_index}
 use Rattle.std.specs.List.{zip}
 use Rattle.pm_topology.specs.declared.topology.PowerDef.{PowerDef}
 use Rattle.pm_power.specs.declared.child.Child.{Child}
@@ -61,12 +61,41 @@ room (Some w) = suc w
 abbrev pub levels : List PowerDef → Option ℕ → ℕ
 levels powers at = chain powers (room at) at
 
--- the need of the child at a place was set, in no more steps than power nodes stand above it
+-- a need that is set isn't the one before
+abbrev pub changes : Bool → Bool → Bool
+changes true on = not on
+changes false on = on
+
+-- how many counts may change if the need of a child is set: that of each power node above it, and none if the need stays
+abbrev pub need_cost : List PowerDef → Bool → Child → ℕ
+need_cost powers on c = cond (changes c.needs on) (levels powers (Some c.parent)) 0
+
+-- those of the child at this place, and none past the last one
+abbrev pub need_cost_at : List PowerDef → ℕ → Bool → List Child → ℕ
+need_cost_at powers place on [] = 0
+need_cost_at powers zero on (c ∷ later) = need_cost powers on c
+need_cost_at powers (suc place) on (c ∷ later) = need_cost_at powers place on later
+
+-- those of all children, if these needs are set in their order; those past the last need don't need their parents
+abbrev pub needs_cost : List PowerDef → List Bool → List Child → ℕ
+needs_cost powers needs [] = 0
+needs_cost powers [] (c ∷ later) = need_cost powers false c + needs_cost powers [] later
+needs_cost powers (need ∷ needs) (c ∷ later) = need_cost powers need c + needs_cost powers needs later
+
+-- those of so many children from this place on
+abbrev pub needs_cost_in : List PowerDef → ℕ → ℕ → List Bool → List Child → ℕ
+needs_cost_in powers place count needs [] = 0
+needs_cost_in powers (suc place) count needs (c ∷ later) = needs_cost_in powers place count needs later
+needs_cost_in powers zero zero needs (c ∷ later) = 0
+needs_cost_in powers zero (suc count) [] (c ∷ later) = need_cost powers false c + needs_cost_in powers zero count [] later
+needs_cost_in powers zero (suc count) (need ∷ needs) (c ∷ later) = need_cost powers need c + needs_cost_in powers zero count needs later
+
+-- the need of the child at a place was set, in no more steps than power nodes stand above it, and in none if it stays
 pub record WasPut (k : ℕ) (on : Bool) (old new : List Child) (powers : List PowerDef) (before after : ℕ) : Type 0 where
   pub child : Child
   pub here : slice_get old k ≡ Some child
   pub put : new ≡ slice_set old k (with_need on child)
-  pub cost : after ≤ before + levels powers (Some child.parent)
+  pub cost : after ≤ before + need_cost powers on child
 
 -- the counts with one more at a parent, where there is one
 abbrev pub used_by : Option ℕ → List ℕ → List ℕ

@@ -5,7 +5,7 @@ ghost use Rattle.pm_topology.specs.Places.{power_place};
 ghost use Rattle.pm_topology.specs.WellFormed.{IsWellFormed};
 ghost use Rattle.pm_power.specs.Forest.{AreAfterParents, ChildNeeds, IsHeld, PowerNeeds, is_up, ups};
 ghost use Rattle.pm_power.specs.Needs.{does_need, needs_of, power_need, set_child, set_need, with_need_at, with_needs, with_needs_in};
-ghost use Rattle.pm_power.specs.Uses.{AreSettledFrom, IsForest, levels_above};
+ghost use Rattle.pm_power.specs.Uses.{AreSettledFrom, IsForest, levels_above, need_cost_at, needs_cost, needs_cost_in};
 
 use crate::child::{self, Child, child_at};
 use crate::climb::put_need;
@@ -80,35 +80,40 @@ impl Power {
     }
 
     /// Sets the needs of all slaves and of all processors, each in their order in the table. Those past
-    /// the last need don't need their power node. Where a need is as before, nothing is counted.
-    pub fn recompute(&mut self, slaves: &[bool], procs: &[bool])
-        ensures { self.new ≡ record self.old { children = with_needs (slaves.now ++ procs.now) self.old.children } }
+    /// the last need don't need their power node. For each need that isn't as before at most one count changes for each
+    /// power node above it, and none for any other.
+    pub fn recompute<L: Ledger>(&mut self, slaves: &[bool], procs: &[bool], steps: &mut Steps<L>)
+        ensures needs { self.new
+            ≡ record self.old { children = with_needs (slaves.now ++ procs.now) self.old.children } }
+        ensures cost { steps.new
+            ≤ steps.old + needs_cost self.old.powers (slaves.now ++ procs.now) self.old.children }
     {
-        put_needs_uncounted::<Brand>(
+        put_all_needs(
             self.powers.as_slice(),
             &mut self.children,
             &mut self.counts,
             &mut self.ups,
             slaves,
             procs,
-            Blank::new(1),
+            steps,
         );
     }
 
     /// Sets whether the processor or slave at a place needs its power node: the slaves come first, in the order of
-    /// their table, and then the processors. Past the last one nothing changes. Where the need is as before, nothing
-    /// is counted.
-    pub fn put(&mut self, place: usize, on: bool)
-        ensures { self.new ≡ record self.old { children = with_need_at place on self.old.children } }
+    /// their table, and then the processors. Past the last one nothing changes. At most one count changes for each power
+    /// node above it, and none if the need is as before.
+    pub fn put<L: Ledger>(&mut self, place: usize, on: bool, steps: &mut Steps<L>)
+        ensures needs { self.new ≡ record self.old { children = with_need_at place on self.old.children } }
+        ensures cost { steps.new ≤ steps.old + need_cost_at self.old.powers place on self.old.children }
     {
-        put_uncounted::<Brand>(
+        put_at(
             self.powers.as_slice(),
             &mut self.children,
             &mut self.counts,
             &mut self.ups,
             place,
             on,
-            Blank::new(1),
+            steps,
         );
     }
 
@@ -241,6 +246,7 @@ fn put_needs<L: Ledger>(
     requires end { to ≤ length children.old }
     ensures children { children.new ≡ with_needs_in from (to - from) needs.now children.old }
     ensures forest { IsForest children.new powers.now counts.new ups.new }
+    ensures cost { steps.new ≤ steps.old + needs_cost_in powers.now from (to - from) needs.now children.old }
 {
     for k in from..to {
         let need = at_or(needs, k - from, false);
@@ -248,56 +254,43 @@ fn put_needs<L: Ledger>(
     }
 }
 
-/// Sets the needs of the slaves, which come first, and of the processors, with a counter that is thrown away.
-fn put_needs_uncounted<L: Ledger>(
+/// Sets the needs of the slaves, which come first, and of the processors.
+fn put_all_needs<L: Ledger>(
     powers: &[PowerDef],
     children: &mut [Child],
     counts: &mut Counts,
     ups: &mut [bool],
     slaves: &[bool],
     procs: &[bool],
-    blank: Blank,
+    steps: &mut Steps<L>,
 )
-    requires forest { IsForest children.old powers.now counts.old ups.old }
-    requires name { blank.name ≡ L.name }
-    requires parts { blank.parts ≡ L.parts }
-    requires some { 0 < blank.parts }
+    requires { IsForest children.old powers.now counts.old ups.old }
     ensures children { children.new ≡ with_needs (slaves.now ++ procs.now) children.old }
     ensures forest { IsForest children.new powers.now counts.new ups.new }
+    ensures cost { steps.new ≤ steps.old + needs_cost powers.now (slaves.now ++ procs.now) children.old }
 {
-    let mut steps = Steps::<L>::new(blank);
     let end = children.len();
     let first = slaves.len().min(end);
-    put_needs(powers, children, counts, ups, 0, first, slaves, &mut steps);
-    put_needs(powers, children, counts, ups, first, end, procs, &mut steps);
+    put_needs(powers, children, counts, ups, 0, first, slaves, steps);
+    put_needs(powers, children, counts, ups, first, end, procs, steps);
 }
 
-/// Sets the need of the child at a place, with a counter that is thrown away.
-fn put_uncounted<L: Ledger>(
+/// Sets the need of the child at a place.
+fn put_at<L: Ledger>(
     powers: &[PowerDef],
     children: &mut [Child],
     counts: &mut Counts,
     ups: &mut [bool],
     place: usize,
     on: bool,
-    blank: Blank,
+    steps: &mut Steps<L>,
 )
-    requires forest { IsForest children.old powers.now counts.old ups.old }
-    requires name { blank.name ≡ L.name }
-    requires parts { blank.parts ≡ L.parts }
-    requires some { 0 < blank.parts }
+    requires { IsForest children.old powers.now counts.old ups.old }
     ensures children { children.new ≡ with_need_at place on children.old }
     ensures forest { IsForest children.new powers.now counts.new ups.new }
+    ensures cost { steps.new ≤ steps.old + need_cost_at powers.now place on children.old }
 {
     if place < children.len() {
-        put_need(
-            powers,
-            children,
-            counts,
-            ups,
-            place,
-            on,
-            &mut Steps::<L>::new(blank),
-        );
+        put_need(powers, children, counts, ups, place, on, steps);
     }
 }

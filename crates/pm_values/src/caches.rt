@@ -8,6 +8,7 @@ ghost use Rattle.pm_topology.specs.UnitMap.{all_at};
 ghost use Rattle.pm_values.specs.Caches.{AreChosen, AreKept, Finds, HasPlaces, HasRoom, HaveSettled, IsChosen, IsWritten, kind_of_unit, value_kept};
 
 use crate::along::Along;
+use crate::counters::recompute;
 use crate::found::Found;
 use crate::kinds::Kinds;
 use crate::moves::log_units;
@@ -64,6 +65,19 @@ impl Caches {
         })
     }
 
+    /// Names each field by a pattern that has no rest: none of them has a row. A further field has to be named here.
+    pub fn name_fields(&self) {
+        let Caches {
+            kinds: _,
+            states: _,
+            needs: _,
+            runs: _,
+            used: _,
+            power: _,
+            values: _,
+        } = self;
+    }
+
     /// The number of units.
     pub fn units(&self) -> usize
         ensures { result ≡ length self.now.values }
@@ -102,7 +116,7 @@ impl Caches {
     {
         choose(tables, &mut self.states, &mut self.needs);
         log_runs(tables, &mut self.runs);
-        self.power.recompute(&self.needs, &self.runs);
+        recompute(&mut self.power, &self.needs, &self.runs);
     }
 
     /// Brings all that is kept up to date, and puts the units whose value isn't the one before into `moved`, the

@@ -13,6 +13,7 @@ ghost use Rattle.pm_values.specs.Touches.{IsBefore, IsLogged, IsOfModes, IsOfRow
 
 use crate::along::Along;
 use crate::caches::{Caches, UnitKind};
+use crate::counters::put;
 use crate::mode_step::ModeStep;
 use crate::needs::{choose_one, choose_turned, follow_runs, is_as_kept, slave_at, state_of};
 use crate::notifications::{freed, log_notice, log_turned_uses_if, log_use};
@@ -186,7 +187,7 @@ impl Caches {
         ensures { IsChosen tables.now self.old self.new }
     {
         let need = choose_one(tables, s, state, slave, &mut self.states, &mut self.needs);
-        self.power.put(s, need);
+        put(&mut self.power, s, need);
     }
 
     /// Writes the value of the slave at a place, which has this number, and whether it is used, puts it into `moved` if

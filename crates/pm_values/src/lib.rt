@@ -5,6 +5,7 @@
 mod along;
 mod caches;
 mod choice;
+mod counters;
 mod following;
 mod found;
 mod kinds;

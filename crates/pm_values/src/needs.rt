@@ -13,6 +13,7 @@ ghost use Rattle.pm_state.specs.Values.{state_at, placed, chosen, need_of, run_o
 
 use crate::caches::UnitKind;
 use crate::choice::chosen_state;
+use crate::counters::put;
 use crate::kinds::Kinds;
 use crate::mode_step::ModeStep;
 use crate::notifications::{changes_use, freed};
@@ -188,7 +189,7 @@ fn choose_at(
 {
     if let Some(slave) = slave_at(tables.topology().slaves.as_slice(), s) {
         let need = choose_one(tables, s, state, slave, states, needs);
-        power.put(s, need);
+        put(power, s, need);
     }
 }
 
@@ -203,7 +204,7 @@ pub(crate) fn follow_runs(tables: &Tables, runs: &mut [bool], power: &mut Power)
     for p in 0..t.procs.len() {
         let run = is_awake(tables.procs().mode(p));
         runs[p] = run;
-        power.put(t.slaves.len() + p, run);
+        put(power, t.slaves.len() + p, run);
     }
 }
 

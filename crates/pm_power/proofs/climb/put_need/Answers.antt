@@ -1,8 +1,8 @@
-use Rattle.std.proofs.Common.{false, ◌≡◌, ℕ, ◌+◌, ◌<◌, ◌≤◌, Some, None, Option, sym, ◌∙◌, ap, subst, arith, length}
+use Rattle.std.proofs.Common.{false, ◌≡◌, ℕ, ◌+◌, ◌<◌, ◌≤◌, Some, None, Option, Bool, cond, refl, sym, ◌∙◌, ap, subst, arith, length}
 use Rattle.std.specs.Prelude.{slice_set, slice_index, nat_lt, IfSome, ◌||◌, List}
 use Rattle.std.proofs.lemmas.Option.{slice_get-get_or}
-use Rattle.pm_power.specs.Uses.{AreCounted, levels, with_need, counted_by, room}
-use Rattle.pm_power.proofs.Following.{need_put, climb_ends, climb_goes_on, turns, level_step, count_has_few, within_put, within_from, room_falls, get_at, earlier, apart_from_test, same_from_test, put_nothing}
+use Rattle.pm_power.specs.Uses.{AreCounted, changes, levels, with_need, counted_by, room}
+use Rattle.pm_power.proofs.Following.{need_put, climb_ends, climb_goes_on, turns, level_step, count_has_few, within_put, within_from, room_falls, get_at, earlier, apart_from_test, same_from_test, put_nothing, need_changes}
 use Rattle.pm_power.proofs.climb.put_need.Goals as goal
 
 pub levels-init : goal.levels-init
@@ -83,3 +83,11 @@ returns-then-child-on-clause-children g c = record {
   put = put_nothing c.args.children.now c.args.k c.child_at-child.result c.args.on c.child_at-child.ensures (same_from_test c.child_at-child.result.needs c.args.on c.if-child-on.true);
   cost = omega arith;
 }
+
+pub returns-clause-children : goal.returns-clause-children
+returns-clause-children g c =
+    let child = c.child_at-child.result in
+    let due : cond (changes child.needs c.args.on) (levels c.args.powers.now (Some child.parent)) 0 ≡ levels c.args.powers.now (Some child.parent) =
+    ap (λ (b : Bool). cond b (levels c.args.powers.now (Some child.parent)) 0) (need_changes child.needs c.args.on (apart_from_test child.needs c.args.on c.if-child-on.false))
+    in
+    record { child = child; here = c.child_at-child.ensures; put = refl; cost = omega (arith, due, c.levels.invariant.cost) }

@@ -17,7 +17,7 @@ returns-in-Some-clause-power c =
     let slaves = c.args.tables.now.fixed.topology.slaves in
     let s = c.args.s in
     let slave = c.in-Some.slave.now in
-    chosen_follows c.args.needs.now s c.choose_one-need.result (need_of c.args.tables.now.now.core s slave) c.args.power.now c.put.new.self c.choose_one-need.new.needs slaves slave
+    chosen_follows c.args.needs.now s c.choose_one-need.result (need_of c.args.tables.now.now.core s slave) c.args.power.now c.put.new.power c.choose_one-need.new.needs slaves slave
     c.requires.needs
     (c.in-Some.ensures ∙ (ap (λ (xs : List SlaveDef). slice_get xs s) c.as_slice.ensures ∙ ap (λ (t : Topology). slice_get t.slaves s) c.topology.ensures.topology))
     c.choose_one-need.ensures.need c.choose_one-need.ensures.needs c.put.ensures

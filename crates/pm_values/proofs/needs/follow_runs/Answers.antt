@@ -38,7 +38,7 @@ loop-p-preserved c =
     let P : Needs → Type 0 = λ power. FollowRuns (length slaves) c.loop-p.runs (slice_set c.loop-p.runs p c.is_awake-run.result) c.loop-p.power power in
     record {
       places = length-set c.loop-p.runs p c.is_awake-run.result ∙ c.loop-p.invariant.places;
-      follow = more_runs (length slaves) c.args.runs.now c.loop-p.runs (slice_set c.loop-p.runs p c.is_awake-run.result) c.args.power.now c.loop-p.power c.put.new.self
+      follow = more_runs (length slaves) c.args.runs.now c.loop-p.runs (slice_set c.loop-p.runs p c.is_awake-run.result) c.args.power.now c.loop-p.power c.put.new.power
           c.loop-p.invariant.follow
           (subst P (sym (c.put.ensures ∙ ap (λ n. record c.loop-p.power { children = with_need_at (n + p) c.is_awake-run.result c.loop-p.power.children }) (c.len.ensures ∙ count)))
           (one_run (length slaves) c.loop-p.runs p c.is_awake-run.result c.loop-p.power (omega (arith, within, c.loop-p.invariant.places))));

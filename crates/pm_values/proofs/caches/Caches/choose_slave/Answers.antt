@@ -53,8 +53,8 @@ returns c =
     let old_needs = c.deref_mut-2.result.now in
     let needs_were : old_needs ≡ placed (need_of rows.before) 0 slaves = c.deref_mut-2.ensures.value ∙ rows.kept.needs in
     let runs_are : c.args.self.now.runs.items ≡ placed (run_of core) 0 book.fixed.topology.procs = rows.kept.runs ∙ runs_before rows.before book rows.changes.procs in
-    let follow : FollowNeeds old_needs c.choose_one-need.new.needs c.args.self.now.power c.put.new.self =
-    chosen_follows old_needs c.args.s c.choose_one-need.result (need_of core c.args.s slave) c.args.self.now.power c.put.new.self c.choose_one-need.new.needs slaves slave
+    let follow : FollowNeeds old_needs c.choose_one-need.new.needs c.args.self.now.power c.put.new.power =
+    chosen_follows old_needs c.args.s c.choose_one-need.result (need_of core c.args.s slave) c.args.self.now.power c.put.new.power c.choose_one-need.new.needs slaves slave
     (ap length needs_were ∙ length-placed (need_of rows.before) 0 slaves) (sym c.requires.there) c.choose_one-need.ensures.need c.choose_one-need.ensures.needs c.put.ensures
     in
     let needs_now : c.choose_one-need.new.needs ≡ placed (need_of core) 0 slaves =
@@ -66,9 +66,9 @@ returns c =
       states = states_are c;
       needs = needs_are c;
       runs = runs_are;
-      power = followed_is book.fixed rows.before core c.args.self.now.power c.put.new.self c.put.new.self
+      power = followed_is book.fixed rows.before core c.args.self.now.power c.put.new.power c.put.new.power
           old_needs c.choose_one-need.new.needs c.args.self.now.runs.items c.args.self.now.runs.items
-          rows.kept.power needs_were rows.kept.runs follow (no_run (length slaves) c.args.self.now.runs.items c.put.new.self) needs_now runs_are;
+          rows.kept.power needs_were rows.kept.runs follow (no_run (length slaves) c.args.self.now.runs.items c.put.new.power) needs_now runs_are;
       kinds = refl;
       used = refl;
       values = refl;
