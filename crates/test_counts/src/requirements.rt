@@ -4,7 +4,7 @@ ghost use Rattle.std.specs.Prelude.{◌≡◌, ◌<◌};
 
 use crate::rows::all_right;
 use pm_base::{Caps, Mode, NoMemory, NodeId, Steps};
-use pm_rows::{Change, RowSeed, Rows, Wanted};
+use pm_rows::{Change, RowSeed, Rows, Wanted, are_placed};
 use std::alloc::Global;
 use std::marker::Brand;
 use std::process::Abort;
@@ -26,7 +26,9 @@ enum Call {
 }
 
 /// A pair with these capabilities at the start of its master, and held or not.
-fn pair(master: usize, slave: usize, preset: u32, hold: bool) -> RowSeed {
+fn pair(master: usize, slave: usize, preset: u32, hold: bool) -> RowSeed
+    ensures { result.slave ≡ slave }
+{
     RowSeed {
         master,
         slave,
@@ -44,7 +46,7 @@ fn pair(master: usize, slave: usize, preset: u32, hold: bool) -> RowSeed {
 
 /// Three masters and two slaves. The first master is active from the load on, uses both slaves, and holds
 /// the second one. The pairs don't stand slave by slave.
-fn loaded(alloc: Global) -> Result<Rows, NoMemory> {
+fn loaded<L: Ledger>(alloc: Global, steps: &mut Steps<L>) -> Result<Rows, NoMemory> {
     let pairs = [
         pair(0, 0, 1, false),
         pair(0, 1, 2, true),
@@ -52,7 +54,7 @@ fn loaded(alloc: Global) -> Result<Rows, NoMemory> {
         pair(2, 1, 1, false),
         pair(2, 0, 3, false),
     ];
-    Rows::load(alloc, 3, 2, 0, pairs.len(), &pairs)
+    Rows::load(alloc, 3, 2, 0, pairs.len(), &pairs, steps)
 }
 
 fn carry_out<L: Ledger>(rows: &mut Rows, by: Call, steps: &mut Steps<L>) {
@@ -61,11 +63,11 @@ fn carry_out<L: Ledger>(rows: &mut Rows, by: Call, steps: &mut Steps<L>) {
         Call::Release(m, s) => rows.release(m, s, steps),
         Call::Set(m, s, caps) => rows.set(m, s, Caps(caps), steps),
         Call::Limit(m, s, latency) => rows.limit(m, s, latency, steps),
-        Call::Arm(m, s) => rows.arm(m, s, Some(NodeId(2))),
-        Call::Settle(m) => rows.settle(m),
-        Call::Shift(m, to) => rows.shift(m, to),
-        Call::DropSlave(s) => rows.drop_slave(s),
-        Call::Clear => rows.clear(),
+        Call::Arm(m, s) => rows.arm(m, s, Some(NodeId(2)), steps),
+        Call::Settle(m) => rows.settle(m, steps),
+        Call::Shift(m, to) => rows.shift(m, to, steps),
+        Call::DropSlave(s) => rows.drop_slave(s, steps),
+        Call::Clear => rows.clear(steps),
     }
 }
 
@@ -108,14 +110,9 @@ static CALLS: [(Call, Told, Told); 21] = [
 ];
 
 /// The place of the first call after which something else is told.
-fn wrong_call<L: Ledger>(rows: &mut Rows, blank: Blank) -> Option<usize>
-    requires name { blank.name ≡ L.name }
-    requires parts { blank.parts ≡ L.parts }
-    requires some { 0 < blank.parts }
-{
-    let mut steps = Steps::<L>::new(blank);
+fn wrong_call<L: Ledger>(rows: &mut Rows, steps: &mut Steps<L>) -> Option<usize> {
     for (place, (by, first, second)) in CALLS.iter().enumerate() {
-        carry_out(rows, *by, &mut steps);
+        carry_out(rows, *by, steps);
         if told(rows, 0) != *first || told(rows, 1) != *second {
             return Some(place);
         }
@@ -123,49 +120,55 @@ fn wrong_call<L: Ledger>(rows: &mut Rows, blank: Blank) -> Option<usize>
     None
 }
 
-#[test]
-fn the_counts_tell_what_the_rows_come_to(rt: HostRuntime) -> Result<(), Fail> {
-    let mut rows = loaded(rt.alloc())?;
-    assert_eq!(rt;
-        (told(&rows, 0), told(&rows, 1)),
-        ((1, None, 1), (7, None, 1))
-    );
-    let wrong = wrong_call::<Brand>(&mut rows, Blank::new(1));
-    all_right(&rt, wrong);
-    assert_eq!(rt; told(&rows, 2), (0, None, 0));
-    Ok(())
-}
-
-#[test]
-fn a_pair_past_the_slaves_has_no_room(rt: HostRuntime) -> Result<(), Fail> {
-    let found = Rows::load(rt.alloc(), 1, 1, 0, 1, &[pair(0, 1, 0, false)]);
-    assert!(rt; found.is_err());
-    Ok(())
-}
-
-#[test]
-fn two_rows_of_a_pair_change_together(rt: HostRuntime) -> Result<(), Fail> {
-    let mut rows = Rows::load(
-        rt.alloc(),
-        1,
-        1,
-        0,
-        2,
-        &[pair(0, 0, 1, false), pair(0, 0, 1, false)],
-    )?;
-    change_twice::<Brand>(&rt, &mut rows, Blank::new(1));
-    Ok(())
-}
-
-/// A requirement of both rows of the pair, and then their release.
-fn change_twice<L: Ledger>(rt: &impl Abort, rows: &mut Rows, blank: Blank)
+/// Loads the rows, carries the calls out, and stops where something else is told than should be.
+fn call_each<L: Ledger>(rt: &(impl Abort + AllocGlobal), blank: Blank) -> Result<(), NoMemory>
     requires name { blank.name ≡ L.name }
     requires parts { blank.parts ≡ L.parts }
     requires some { 0 < blank.parts }
 {
     let mut steps = Steps::<L>::new(blank);
+    let mut rows = loaded(rt.alloc(), &mut steps)?;
+    assert_eq!(rt;
+        (told(&rows, 0), told(&rows, 1)),
+        ((1, None, 1), (7, None, 1))
+    );
+    let wrong = wrong_call(&mut rows, &mut steps);
+    all_right(rt, wrong);
+    assert_eq!(rt; told(&rows, 2), (0, None, 0));
+    Ok(())
+}
+
+#[test]
+fn the_counts_tell_what_the_rows_come_to(rt: HostRuntime) -> Result<(), Fail> {
+    call_each::<Brand>(&rt, Blank::new(1))?;
+    Ok(())
+}
+
+#[test]
+fn a_pair_past_the_slaves_is_not_placed(rt: HostRuntime) -> Result<(), Fail> {
+    assert!(rt; are_placed(2, &[pair(0, 1, 0, false)]));
+    assert!(rt; !are_placed(1, &[pair(0, 1, 0, false)]));
+    Ok(())
+}
+
+#[test]
+fn two_rows_of_a_pair_change_together(rt: HostRuntime) -> Result<(), Fail> {
+    change_twice::<Brand>(&rt, Blank::new(1))?;
+    Ok(())
+}
+
+/// Loads two rows of one pair, sets a requirement of both, and releases them.
+fn change_twice<L: Ledger>(rt: &(impl Abort + AllocGlobal), blank: Blank) -> Result<(), NoMemory>
+    requires name { blank.name ≡ L.name }
+    requires parts { blank.parts ≡ L.parts }
+    requires some { 0 < blank.parts }
+{
+    let mut steps = Steps::<L>::new(blank);
+    let pairs = [pair(0, 0, 1, false), pair(0, 0, 1, false)];
+    let mut rows = Rows::load(rt.alloc(), 1, 1, 0, 2, &pairs, &mut steps)?;
     rows.change(0, 0, Change::Set(Mode::Active, Caps(6)), &mut steps);
-    assert_eq!(rt; told(rows, 0), (6, None, 2));
+    assert_eq!(rt; told(&rows, 0), (6, None, 2));
     rows.change(0, 0, Change::Release, &mut steps);
-    assert_eq!(rt; told(rows, 0), (0, None, 0));
+    assert_eq!(rt; told(&rows, 0), (0, None, 0));
+    Ok(())
 }

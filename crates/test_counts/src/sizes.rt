@@ -7,9 +7,10 @@ ghost use Rattle.pm_rows.specs.Rows.{is_at};
 use crate::requirements::{Told, told};
 use crate::rows::all_right;
 use pm_base::{Caps, Mode, NoMemory, NodeId, Steps};
-use pm_rows::{Change, Entry, RowSeed, Rows};
+use pm_rows::{Change, Entry, RowSeed, Rows, are_placed};
 use std::alloc::Global;
 use std::marker::Brand;
+use std::process::Abort;
 use std::sync::ledger::{Blank, Ledger};
 use std::test::Fail;
 
@@ -41,12 +42,15 @@ fn push_slave(pairs: &mut Vec<RowSeed>, slave: usize) -> Result<(), NoMemory> {
 }
 
 /// Rows of so many slaves, none of which is used.
-fn filled(alloc: Global, slaves: usize) -> Result<Rows, NoMemory> {
+fn filled<L: Ledger>(alloc: Global, slaves: usize, steps: &mut Steps<L>) -> Result<Rows, NoMemory> {
     let mut pairs = Vec::new(alloc);
     for slave in 0..slaves {
         push_slave(&mut pairs, slave)?;
     }
-    Rows::load(alloc, MASTERS, slaves, 0, pairs.len(), &pairs)
+    if !are_placed(slaves, &pairs) {
+        return Err(NoMemory);
+    }
+    Rows::load(alloc, MASTERS, slaves, 0, pairs.len(), &pairs, steps)
 }
 
 fn is_at(entry: &Entry, master: usize, slave: usize) -> bool
@@ -90,7 +94,7 @@ fn change<L: Ledger>(
         Change::Release => rows.release(master, slave, steps),
         Change::Set(_, caps) => rows.set(master, slave, caps, steps),
         Change::Limit(latency) => rows.limit(master, slave, latency, steps),
-        Change::Arm(target) => rows.arm(master, slave, target),
+        Change::Arm(target) => rows.arm(master, slave, target, steps),
     }
     true
 }
@@ -110,15 +114,11 @@ static CHANGES: [(usize, Change, Told); 10] = [
 ];
 
 /// The first change after which something else is told of its slave, or anything of the one before it.
-fn wrong_change<L: Ledger>(rows: &mut Rows, slave: usize, blank: Blank) -> Option<usize>
-    requires name { blank.name ≡ L.name }
-    requires parts { blank.parts ≡ L.parts }
-    requires some { 0 < blank.parts }
+fn wrong_change<L: Ledger>(rows: &mut Rows, slave: usize, steps: &mut Steps<L>) -> Option<usize>
     requires slave { 0 < slave }
 {
-    let mut steps = Steps::<L>::new(blank);
     for (place, (master, by, wanted)) in CHANGES.iter().enumerate() {
-        if !change(rows, *master, slave, *by, &mut steps)
+        if !change(rows, *master, slave, *by, steps)
             || told(rows, slave) != *wanted
             || told(rows, slave - 1) != (0, None, 0)
         {
@@ -128,13 +128,24 @@ fn wrong_change<L: Ledger>(rows: &mut Rows, slave: usize, blank: Blank) -> Optio
     None
 }
 
-#[test]
-fn a_change_costs_the_same_over_any_number_of_slaves(rt: HostRuntime) -> Result<(), Fail> {
+/// Makes the changes over each number of slaves, and stops where something else is told than should be.
+fn change_each<L: Ledger>(rt: &(impl Abort + AllocGlobal), blank: Blank) -> Result<(), NoMemory>
+    requires name { blank.name ≡ L.name }
+    requires parts { blank.parts ≡ L.parts }
+    requires some { 0 < blank.parts }
+{
+    let mut steps = Steps::<L>::new(blank);
     for slaves in SIZES.iter() {
-        let mut rows = filled(rt.alloc(), *slaves)?;
-        let wrong = wrong_change::<Brand>(&mut rows, slaves - 1, Blank::new(1));
-        all_right(&rt, wrong);
+        let mut rows = filled(rt.alloc(), *slaves, &mut steps)?;
+        let wrong = wrong_change(&mut rows, slaves - 1, &mut steps);
+        all_right(rt, wrong);
         assert_eq!(rt; rows.users(slaves - 1), 0);
     }
+    Ok(())
+}
+
+#[test]
+fn a_change_costs_the_same_over_any_number_of_slaves(rt: HostRuntime) -> Result<(), Fail> {
+    change_each::<Brand>(&rt, Blank::new(1))?;
     Ok(())
 }

@@ -1,6 +1,6 @@
 //! The requirement rows as they are at load: changed each by its own call, and made anew.
 
-ghost use Rattle.std.specs.Prelude.{◌≡◌, ◌<◌, IfOk};
+ghost use Rattle.std.specs.Prelude.{◌≡◌, ◌<◌, ◌≤◌, IfOk};
 
 use crate::rows::{boxed, same};
 use pm_base::{Caps, Mode, NoMemory, NodeId, Steps};
@@ -35,10 +35,23 @@ static SEEDS: [RowSeed; 2] = [
 
 /// The rows of that, with room for so many.
 fn loaded(alloc: Global, room: usize) -> Result<Box<Rows>, NoMemory>
+    requires { 2 ≤ room }
     ensures room { IfOk result (λ rows. rows.value.room ≡ room) }
     ensures slaves { IfOk result (λ rows. rows.value.slaves ≡ 1) }
 {
-    boxed(alloc, Rows::load(alloc, 2, 1, 0, room, &SEEDS)?)
+    loaded_by::<Brand>(alloc, room, Blank::new(1))
+}
+
+fn loaded_by<L: Ledger>(alloc: Global, room: usize, blank: Blank) -> Result<Box<Rows>, NoMemory>
+    requires two { 2 ≤ room }
+    requires name { blank.name ≡ L.name }
+    requires parts { blank.parts ≡ L.parts }
+    requires some { 0 < blank.parts }
+    ensures room { IfOk result (λ rows. rows.value.room ≡ room) }
+    ensures slaves { IfOk result (λ rows. rows.value.slaves ≡ 1) }
+{
+    let mut steps = Steps::<L>::new(blank);
+    boxed(alloc, Rows::load(alloc, 2, 1, 0, room, &SEEDS, &mut steps)?)
 }
 
 fn row(used: bool, now: u32, next: u32, preset: u32) -> Row {
@@ -58,10 +71,14 @@ fn modes(rows: &Rows) -> [Mode; 3] {
 }
 
 /// Changes the rows, makes them anew for the same pairs, and stops where a row isn't what it should be then.
-fn change_and_reload(rt: &impl Abort, rows: &mut Rows)
+fn change_and_reload<L: Ledger>(rt: &impl Abort, rows: &mut Rows, blank: Blank)
     requires room { rows.old.room ≡ 2 }
     requires slaves { rows.old.slaves ≡ 1 }
+    requires name { blank.name ≡ L.name }
+    requires parts { blank.parts ≡ L.parts }
+    requires some { 0 < blank.parts }
 {
+    let mut steps = Steps::<L>::new(blank);
     let first = Row {
         hold: true,
         ..row(true, 3, 3, 2)
@@ -73,22 +90,22 @@ fn change_and_reload(rt: &impl Abort, rows: &mut Rows)
     );
     same(rt, modes(rows), [Mode::Active, Mode::Off, Mode::Off]);
     same(rt, (rows.row(1, 1), rows.row(2, 0)), (None, None));
-    rows.settle(1);
+    rows.settle(1, &mut steps);
     same(rt, rows.row(0, 0), Some(first));
-    rows.settle(0);
+    rows.settle(0, &mut steps);
     same(rt, rows.row(0, 0), Some(row(true, 3, 3, 2)));
-    rows.shift(1, Mode::Active);
-    rows.drop_slave(1);
+    rows.shift(1, Mode::Active, &mut steps);
+    rows.drop_slave(1, &mut steps);
     same(rt, rows.row(1, 0), Some(row(true, 1, 1, 1)));
-    rows.arm(1, 0, Some(NodeId(7)));
-    rows.drop_slave(0);
+    rows.arm(1, 0, Some(NodeId(7)), &mut steps);
+    rows.drop_slave(0, &mut steps);
     same(rt, rows.row(0, 0), Some(row(false, 0, 0, 2)));
     same(rt, rows.row(1, 0), Some(row(false, 0, 0, 1)));
-    rows.shift(0, Mode::Asleep);
-    rows.shift(1, Mode::Off);
-    rows.shift(0, Mode::Off);
-    rows.shift(0, Mode::Active);
-    rows.reload(&SEEDS);
+    rows.shift(0, Mode::Asleep, &mut steps);
+    rows.shift(1, Mode::Off, &mut steps);
+    rows.shift(0, Mode::Off, &mut steps);
+    rows.shift(0, Mode::Active, &mut steps);
+    rows.reload(&SEEDS, &mut steps);
     same(
         rt,
         (rows.row(0, 0), rows.row(1, 0)),
@@ -100,7 +117,7 @@ fn change_and_reload(rt: &impl Abort, rows: &mut Rows)
 #[test]
 fn rows_made_anew_are_those_at_load(rt: HostRuntime) -> Result<(), Fail> {
     let mut rows = loaded(rt.alloc(), 2)?;
-    change_and_reload(&rt, &mut rows);
+    change_and_reload::<Brand>(&rt, &mut rows, Blank::new(1));
     Ok(())
 }
 
@@ -112,19 +129,19 @@ fn change_each<L: Ledger>(rt: &impl Abort, rows: &mut Rows, blank: Blank)
 {
     let mut steps = Steps::<L>::new(blank);
     rows.release(0, 0, &mut steps);
-    rows.settle(0);
+    rows.settle(0, &mut steps);
     same(rt, rows.row(0, 0), Some(row(false, 0, 0, 2)));
     rows.request(0, 0, Caps(5), &mut steps);
     same(rt, rows.row(0, 0), Some(row(true, 5, 5, 2)));
     rows.set(0, 0, Caps(1), &mut steps);
     same(rt, rows.row(0, 0), Some(row(true, 1, 1, 2)));
-    rows.shift(0, Mode::Suspending);
+    rows.shift(0, Mode::Suspending, &mut steps);
     rows.set(0, 0, Caps(4), &mut steps);
     same(rt, rows.row(0, 0), Some(row(true, 1, 4, 2)));
-    rows.shift(0, Mode::Asleep);
+    rows.shift(0, Mode::Asleep, &mut steps);
     rows.set(0, 0, Caps(7), &mut steps);
     same(rt, rows.row(0, 0), Some(row(true, 4, 1, 2)));
-    rows.shift(0, Mode::Active);
+    rows.shift(0, Mode::Active, &mut steps);
     same(rt, rows.row(0, 0), Some(row(true, 1, 1, 2)));
     rows.limit(0, 0, 10, &mut steps);
     let limited = Row {
@@ -166,13 +183,17 @@ static ANEW: [RowSeed; 1] = [RowSeed {
 }];
 
 /// Makes the rows anew for other pairs, for none and for the first ones, and stops where one isn't what it should be.
-fn reload_others(rt: &impl Abort, rows: &mut Rows)
+fn reload_others<L: Ledger>(rt: &impl Abort, rows: &mut Rows, blank: Blank)
     requires room { rows.old.room ≡ 3 }
     requires slaves { rows.old.slaves ≡ 1 }
+    requires name { blank.name ≡ L.name }
+    requires parts { blank.parts ≡ L.parts }
+    requires some { 0 < blank.parts }
 {
-    rows.shift(1, Mode::Active);
-    rows.shift(1, Mode::Suspending);
-    rows.reload(&ANEW_USED);
+    let mut steps = Steps::<L>::new(blank);
+    rows.shift(1, Mode::Active, &mut steps);
+    rows.shift(1, Mode::Suspending, &mut steps);
+    rows.reload(&ANEW_USED, &mut steps);
     same(rt, rows.len(), 1);
     same(
         rt,
@@ -185,18 +206,18 @@ fn reload_others(rt: &impl Abort, rows: &mut Rows)
         (Mode::Active, Mode::Suspending),
     );
     same(rt, (rows.users(0), rows.wanted(0).caps), (1, Caps(5)));
-    rows.reload(&ANEW);
+    rows.reload(&ANEW, &mut steps);
     same(rt, rows.row(1, 0), Some(row(false, 0, 0, 4)));
     same(rt, (rows.users(0), rows.wanted(0).caps), (0, Caps(0)));
-    rows.reload(&[]);
+    rows.reload(&[], &mut steps);
     same(rt, rows.len(), 0);
-    rows.reload(&SEEDS);
+    rows.reload(&SEEDS, &mut steps);
     same(rt, rows.len(), 2);
 }
 
 #[test]
 fn rows_are_made_anew_for_other_pairs(rt: HostRuntime) -> Result<(), Fail> {
     let mut rows = loaded(rt.alloc(), 3)?;
-    reload_others(&rt, &mut rows);
+    reload_others::<Brand>(&rt, &mut rows, Blank::new(1));
     Ok(())
 }

@@ -7,11 +7,14 @@ use pm_base::{Caps, Mode, NoMemory, NodeId, Steps};
 use pm_rows::{Change, Row, RowSeed, Rows, Wanted};
 use std::alloc::Global;
 use std::marker::Brand;
+use std::process::Abort;
 use std::sync::ledger::{Blank, Ledger};
 use std::test::Fail;
 
 /// The row of a master on the one slave, with a preset.
-fn seed(master: usize, shareable: bool, preset: u32, hold: bool) -> RowSeed {
+fn seed(master: usize, shareable: bool, preset: u32, hold: bool) -> RowSeed
+    ensures { result.slave ≡ 0 }
+{
     RowSeed {
         master,
         slave: 0,
@@ -33,12 +36,20 @@ static BESIDES: [(bool, Option<NodeId>); 4] = [
 
 /// The rows of two masters, of which the first one is in a mode and may use the slave. A row that is used
 /// has ACCESS now, CONTEXT next, and a latency of 9.
-fn prepared(alloc: Global, mode: Mode, used: bool, from: RowSeed) -> Result<Box<Rows>, NoMemory> {
+fn prepared<L: Ledger>(
+    alloc: Global,
+    mode: Mode,
+    used: bool,
+    from: RowSeed,
+    steps: &mut Steps<L>,
+) -> Result<Box<Rows>, NoMemory>
+    requires { from.slave < 1 }
+{
     let boot = if mode == Mode::Active { 0 } else { 1 };
-    let mut rows = boxed(alloc, Rows::load(alloc, 2, 1, boot, 1, &[from])?)?;
-    rows.shift(0, mode);
+    let mut rows = boxed(alloc, Rows::load(alloc, 2, 1, boot, 1, &[from], steps)?)?;
+    rows.shift(0, mode, steps);
     if used {
-        change_all::<Brand>(&mut rows, &TO_USED, Blank::new(1));
+        change_all(&mut rows, &TO_USED, steps);
     }
     Ok(rows)
 }
@@ -51,14 +62,9 @@ static TO_USED: [(usize, Change); 3] = [
 ];
 
 /// Changes the rows of these masters on the one slave, one after another.
-fn change_all<L: Ledger>(rows: &mut Rows, changes: &[(usize, Change)], blank: Blank)
-    requires name { blank.name ≡ L.name }
-    requires parts { blank.parts ≡ L.parts }
-    requires some { 0 < blank.parts }
-{
-    let mut steps = Steps::<L>::new(blank);
+fn change_all<L: Ledger>(rows: &mut Rows, changes: &[(usize, Change)], steps: &mut Steps<L>) {
     for (master, by) in changes {
-        rows.change(*master, 0, *by, &mut steps);
+        rows.change(*master, 0, *by, steps);
     }
 }
 
@@ -140,19 +146,20 @@ fn shifted(wanted: Use, was_used: bool, preset: u32, hold: bool, armed: Option<N
 }
 
 /// Whether a shift makes of a row in one of its four forms what is wanted, held and armed or not.
-fn is_shifted(
+fn is_shifted<L: Ledger>(
     alloc: Global,
     shift: &(Mode, Mode, &[Use], bool),
     form: usize,
     wanted: Use,
+    steps: &mut Steps<L>,
 ) -> Result<bool, NoMemory> {
     let (from, to, _, keeps) = *shift;
     let used = form < 2;
     let preset = if form % 2 == 1 { 5 } else { 0 };
     for (hold, armed) in BESIDES.iter() {
-        let mut rows = prepared(alloc, from, used, seed(0, false, preset, *hold))?;
-        rows.arm(0, 0, *armed);
-        rows.shift(0, to);
+        let mut rows = prepared(alloc, from, used, seed(0, false, preset, *hold), steps)?;
+        rows.arm(0, 0, *armed, steps);
+        rows.shift(0, to, steps);
         let row = if keeps {
             shifted(wanted, used, preset, *hold, *armed)
         } else {
@@ -166,18 +173,27 @@ fn is_shifted(
 }
 
 /// Whether a shift makes what is wanted of a row in each of its four forms.
-fn is_right(alloc: Global, shift: &(Mode, Mode, &[Use], bool)) -> Result<bool, NoMemory> {
+fn is_right<L: Ledger>(
+    alloc: Global,
+    shift: &(Mode, Mode, &[Use], bool),
+    steps: &mut Steps<L>,
+) -> Result<bool, NoMemory> {
     for (form, wanted) in shift.2.iter().enumerate() {
-        if !is_shifted(alloc, shift, form, *wanted)? {
+        if !is_shifted(alloc, shift, form, *wanted, steps)? {
             return Ok(false);
         }
     }
     Ok(true)
 }
 
-fn wrong_shift(alloc: Global) -> Result<Option<usize>, NoMemory> {
+fn wrong_shift<L: Ledger>(alloc: Global, blank: Blank) -> Result<Option<usize>, NoMemory>
+    requires name { blank.name ≡ L.name }
+    requires parts { blank.parts ≡ L.parts }
+    requires some { 0 < blank.parts }
+{
+    let mut steps = Steps::<L>::new(blank);
     for (place, shift) in SHIFTS.iter().enumerate() {
-        if !is_right(alloc, shift)? {
+        if !is_right(alloc, shift, &mut steps)? {
             return Ok(Some(place));
         }
     }
@@ -186,7 +202,7 @@ fn wrong_shift(alloc: Global) -> Result<Option<usize>, NoMemory> {
 
 #[test]
 fn each_change_of_a_mode_changes_the_rows_by_its_table(rt: HostRuntime) -> Result<(), Fail> {
-    all_right(&rt, wrong_shift(rt.alloc())?);
+    all_right(&rt, wrong_shift::<Brand>(rt.alloc(), Blank::new(1))?);
     Ok(())
 }
 
@@ -222,18 +238,23 @@ static STARTS: [(bool, &[usize], Users); 6] = [
 ];
 
 /// Three masters, of which the last two have presets for the slave. They start in this order.
-fn started(alloc: Global, shareable: bool, order: &[usize]) -> Result<Box<Rows>, NoMemory> {
+fn started<L: Ledger>(
+    alloc: Global,
+    shareable: bool,
+    order: &[usize],
+    steps: &mut Steps<L>,
+) -> Result<Box<Rows>, NoMemory> {
     let seeds = [seed(1, shareable, 1, false), seed(2, shareable, 4, false)];
-    let mut rows = boxed(alloc, Rows::load(alloc, 3, 1, 0, 2, &seeds)?)?;
+    let mut rows = boxed(alloc, Rows::load(alloc, 3, 1, 0, 2, &seeds, steps)?)?;
     for master in order {
-        rows.shift(*master, Mode::Active);
+        rows.shift(*master, Mode::Active, steps);
     }
     Ok(rows)
 }
 
-fn wrong_start(alloc: Global) -> Result<Option<usize>, NoMemory> {
+fn wrong_start<L: Ledger>(alloc: Global, steps: &mut Steps<L>) -> Result<Option<usize>, NoMemory> {
     for (place, (shareable, order, wanted)) in STARTS.iter().enumerate() {
-        let rows = started(alloc, *shareable, order)?;
+        let rows = started(alloc, *shareable, order, steps)?;
         if users(&rows) != *wanted {
             return Ok(Some(place));
         }
@@ -241,18 +262,30 @@ fn wrong_start(alloc: Global) -> Result<Option<usize>, NoMemory> {
     Ok(None)
 }
 
+/// Starts masters in each of these orders, stops where another one uses the slave than should, and lets the first one
+/// to start go off.
+fn start_each<L: Ledger>(rt: &(impl Abort + AllocGlobal), blank: Blank) -> Result<(), NoMemory>
+    requires name { blank.name ≡ L.name }
+    requires parts { blank.parts ≡ L.parts }
+    requires some { 0 < blank.parts }
+{
+    let mut steps = Steps::<L>::new(blank);
+    all_right(rt, wrong_start(rt.alloc(), &mut steps)?);
+    let mut rows = started(rt.alloc(), false, &[1, 2], &mut steps)?;
+    rows.shift(1, Mode::Off, &mut steps);
+    same(rt, users(&rows), (false, false, 0, None, None));
+    rows.shift(2, Mode::Asleep, &mut steps);
+    rows.shift(2, Mode::Active, &mut steps);
+    same(rt, users(&rows), (false, false, 0, None, None));
+    rows.shift(2, Mode::Off, &mut steps);
+    rows.shift(2, Mode::Active, &mut steps);
+    same(rt, users(&rows), (false, true, 1, Some(2), None));
+    Ok(())
+}
+
 #[test]
 fn the_first_to_start_gets_a_slave_that_cannot_be_shared(rt: HostRuntime) -> Result<(), Fail> {
-    all_right(&rt, wrong_start(rt.alloc())?);
-    let mut rows = started(rt.alloc(), false, &[1, 2])?;
-    rows.shift(1, Mode::Off);
-    same(&rt, users(&rows), (false, false, 0, None, None));
-    rows.shift(2, Mode::Asleep);
-    rows.shift(2, Mode::Active);
-    same(&rt, users(&rows), (false, false, 0, None, None));
-    rows.shift(2, Mode::Off);
-    rows.shift(2, Mode::Active);
-    same(&rt, users(&rows), (false, true, 1, Some(2), None));
+    start_each::<Brand>(&rt, Blank::new(1))?;
     Ok(())
 }
 
@@ -276,19 +309,20 @@ static WANTS: [(Mode, bool, bool, bool, u32); 14] = [
 ];
 
 /// Whether what is wanted is right, of a slave with these capabilities.
-fn is_wanted(
+fn is_wanted<L: Ledger>(
     alloc: Global,
     row: &(Mode, bool, bool, bool, u32),
     all: u32,
+    steps: &mut Steps<L>,
 ) -> Result<bool, NoMemory> {
     let (mode, used, armed, hold, caps) = *row;
     let own = RowSeed {
         all: Caps(all),
         ..seed(0, true, 0, hold)
     };
-    let mut rows = prepared(alloc, mode, used, own)?;
+    let mut rows = prepared(alloc, mode, used, own, steps)?;
     if armed {
-        rows.arm(0, 0, Some(NodeId(2)));
+        rows.arm(0, 0, Some(NodeId(2)), steps);
     }
     let wanted = Wanted {
         caps: Caps(caps & all),
@@ -301,9 +335,14 @@ fn is_wanted(
     Ok(rows.wanted(0) == wanted && rows.wanted(1) == none)
 }
 
-fn wrong_want(alloc: Global) -> Result<Option<usize>, NoMemory> {
+fn wrong_want<L: Ledger>(alloc: Global, blank: Blank) -> Result<Option<usize>, NoMemory>
+    requires name { blank.name ≡ L.name }
+    requires parts { blank.parts ≡ L.parts }
+    requires some { 0 < blank.parts }
+{
+    let mut steps = Steps::<L>::new(blank);
     for (place, row) in WANTS.iter().enumerate() {
-        if !is_wanted(alloc, row, 7)? || !is_wanted(alloc, row, 3)? {
+        if !is_wanted(alloc, row, 7, &mut steps)? || !is_wanted(alloc, row, 3, &mut steps)? {
             return Ok(Some(place));
         }
     }
@@ -312,7 +351,7 @@ fn wrong_want(alloc: Global) -> Result<Option<usize>, NoMemory> {
 
 #[test]
 fn what_is_wanted_has_three_parts(rt: HostRuntime) -> Result<(), Fail> {
-    all_right(&rt, wrong_want(rt.alloc())?);
+    all_right(&rt, wrong_want::<Brand>(rt.alloc(), Blank::new(1))?);
     Ok(())
 }
 
@@ -323,25 +362,36 @@ fn wanted_in_all(caps: u32, limit: Option<u32>) -> Wanted {
     }
 }
 
-#[test]
-fn rows_of_several_masters_are_joined(rt: HostRuntime) -> Result<(), Fail> {
-    let mut rows = started(rt.alloc(), true, &[1, 2])?;
-    same(&rt, rows.wanted(0), wanted_in_all(5, None));
+/// Limits and releases of two masters that use a slave, and what is wanted of it then.
+fn join<L: Ledger>(rt: &(impl Abort + AllocGlobal), blank: Blank) -> Result<(), NoMemory>
+    requires name { blank.name ≡ L.name }
+    requires parts { blank.parts ≡ L.parts }
+    requires some { 0 < blank.parts }
+{
+    let mut steps = Steps::<L>::new(blank);
+    let mut rows = started(rt.alloc(), true, &[1, 2], &mut steps)?;
+    same(rt, rows.wanted(0), wanted_in_all(5, None));
     let limits = [(1, Change::Limit(300)), (2, Change::Limit(299))];
-    change_all::<Brand>(&mut rows, &limits, Blank::new(1));
-    same(&rt, rows.wanted(0), wanted_in_all(5, Some(299)));
+    change_all(&mut rows, &limits, &mut steps);
+    same(rt, rows.wanted(0), wanted_in_all(5, Some(299)));
     same(
-        &rt,
+        rt,
         [rows.usage(0, 0), rows.usage(1, 0), rows.usage(2, 0)],
         [2, 3, 3],
     );
     let releases = [(2, Change::Release), (2, Change::Limit(7))];
-    change_all::<Brand>(&mut rows, &releases, Blank::new(1));
-    same(&rt, rows.wanted(0), wanted_in_all(1, Some(300)));
+    change_all(&mut rows, &releases, &mut steps);
+    same(rt, rows.wanted(0), wanted_in_all(1, Some(300)));
     same(
-        &rt,
+        rt,
         [rows.usage(0, 0), rows.usage(1, 0), rows.usage(2, 0)],
         [2, 1, 2],
     );
+    Ok(())
+}
+
+#[test]
+fn rows_of_several_masters_are_joined(rt: HostRuntime) -> Result<(), Fail> {
+    join::<Brand>(&rt, Blank::new(1))?;
     Ok(())
 }

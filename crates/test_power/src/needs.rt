@@ -150,9 +150,14 @@ static RECOMPUTES: [(&[bool], &[u32], &[usize]); 6] = [
 ];
 
 /// The first row after which other nodes are up or need their parents.
-fn wrong_recompute(power: &mut Power) -> Option<usize> {
+fn wrong_recompute<L: Ledger>(power: &mut Power, blank: Blank) -> Option<usize>
+    requires name { blank.name ≡ L.name }
+    requires parts { blank.parts ≡ L.parts }
+    requires some { 0 < blank.parts }
+{
+    let mut steps = Steps::<L>::new(blank);
     for (row, (needs, numbers, places)) in RECOMPUTES.iter().enumerate() {
-        power.recompute(&[], needs);
+        power.recompute(&[], needs, &mut steps);
         if !are_up(power, places) || !powers_need(power, places) || !procs_need(power, numbers) {
             return Some(row);
         }
@@ -163,6 +168,6 @@ fn wrong_recompute(power: &mut Power) -> Option<usize> {
 #[test]
 fn all_needs_are_set_at_once(rt: HostRuntime) -> Result<(), Fail> {
     let mut power = forest(&rt, &tree(rt.alloc())?)?;
-    all_right(&rt, wrong_recompute(&mut power));
+    all_right(&rt, wrong_recompute::<Brand>(&mut power, Blank::new(1)));
     Ok(())
 }
