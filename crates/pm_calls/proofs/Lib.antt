@@ -8,3 +8,4 @@ pub mod ShutdownSound
 pub mod Verdicts
 pub mod WakeLemmas
 pub mod WakeSound
+pub mod PermissionsLaw

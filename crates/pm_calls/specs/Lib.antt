@@ -1,6 +1,7 @@
 pub mod Characteristics
 pub mod Checks
 pub mod Events
+pub mod Permissions
 pub mod ProcCalls
 pub mod ResetLines
 pub mod RowCalls

@@ -4,10 +4,12 @@
 mod calls;
 mod characteristics;
 mod events;
+mod laws;
 mod reset_lines;
 mod verdict;
 mod views;
 
 pub use calls::{is_once, keeps_values, only_reads, row_node, serve};
 pub use events::{boot, interrupt, raise, wait};
+pub use laws::checks_are_permissions;
 pub use verdict::{Asked, Say, Verdict, aborted_by, asked_by};
