@@ -17,8 +17,11 @@ const WORDS: [u32; 40] = [
     0x105, 1, 33, 0x1,
 ];
 
-/// The object of the laboratory. The one error is want of memory: that its bytes are an object, so that none comes where
-/// there is memory, is tested and not proved.
+/// The object of the laboratory.
+///
+/// # Errors
+///
+/// `NoMemory` if there is not enough memory.
 pub fn lab_object(alloc: Global) -> Result<Object, NoMemory>
     ensures exact { IfOk result (λ object. object ≡ laboratory) }
     ensures reads { IfOk result (Reads (little_endian lab_words)) }
@@ -27,7 +30,8 @@ pub fn lab_object(alloc: Global) -> Result<Object, NoMemory>
     let bytes = bytes_of(alloc, &WORDS)?;
     match decode(alloc, bytes.as_slice()) {
         Ok(object) => Ok(object),
-        Err(DecodeError::Memory(_) | DecodeError::Bad(_)) => Err(NoMemory),
+        Err(DecodeError::Memory(error)) => Err(error),
+        Err(DecodeError::Bad(_)) => unreachable!(),
     }
 }
 
