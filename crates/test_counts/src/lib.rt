@@ -6,6 +6,8 @@ mod cells;
 #[cfg(test)]
 mod counts;
 #[cfg(test)]
+mod fields;
+#[cfg(test)]
 mod requirements;
 #[cfg(test)]
 mod rows;
