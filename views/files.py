@@ -1,17 +1,21 @@
 """The files that the words of a view name otherwise: `-` is standard input, and `-o FILE` takes the output."""
 
 import contextlib
+import errno
 import io
 import os
 import sys
+from typing import Callable
 
-from faults import STANDARD_INPUT
-from forms import DONE
+import faults
+from forms import DONE, UNWRITABLE
 from program import BadUse
-from target import Target, take_words
+from target import Refused, Target, take_words
+
+View = Callable[[list[str]], int]
 
 
-def input_to_read_again(words):
+def input_to_read_again(words: list[str]) -> list[str]:
     """The words with `/dev/stdin` in place of `-`: a file from now on, which has what standard input had."""
     inputs = [k for k, word in enumerate(words) if word == "-" and words[max(k - 1, 0)] != "-o"]
     if len(inputs) > 1:
@@ -27,34 +31,52 @@ def input_to_read_again(words):
         raise BadUse(f"standard input can't be read: {fault.strerror}") from None
     os.dup2(number, 0)
     os.close(number)
-    return [STANDARD_INPUT if k in inputs else word for k, word in enumerate(words)]
+    return [faults.STANDARD_INPUT if k in inputs else word for k, word in enumerate(words)]
 
 
-def output_of(view):
-    """The exit of a view, and what it writes."""
-    file = io.TextIOWrapper(io.BytesIO(), sys.stdout.encoding, sys.stdout.errors)
+def write_out(output: bytes) -> None:
+    """Writes to standard output, whole."""
+    try:
+        if sys.stdout is None:  # (it was closed when Python began)
+            raise OSError(errno.EBADF, os.strerror(errno.EBADF))
+        sys.stdout.buffer.write(output)
+        sys.stdout.buffer.flush()
+    except OSError as fault:
+        # (Python writes what is left at its end: let that go nowhere)
+        os.dup2(os.open(os.devnull, os.O_WRONLY), 1)
+        raise Refused(faults.not_written("standard output", fault), UNWRITABLE) from None
+
+
+def output_of(view: View, words: list[str]) -> tuple[int, bytes]:
+    """The exit of a view, and what it writes. A name of a file that isn't UTF-8 is written as it is."""
+    file = io.TextIOWrapper(io.BytesIO(), "utf-8", "surrogateescape", newline="\n")
     with contextlib.redirect_stdout(file):
-        status = view()
+        status = view(words)
     file.flush()
     return status, file.buffer.getvalue()
 
 
-def write_to(name, view):
+def write_to(name: str, view: View, words: list[str]) -> int:
     """Runs a view, and puts what it writes into a file if it has done its work. If not, the file stays as it was."""
     target = Target(name)
     try:
-        status, output = output_of(view)
+        status, output = output_of(view, words)
         if status in DONE:
             target.put(output)
     finally:
         target.drop()
     if status not in DONE:
-        sys.stdout.buffer.write(output)
+        write_out(output)
     return status
 
 
-def run(view, words, has_output):
+def run(view: View, words: list[str], has_output: bool) -> int:
     """Runs a view over its words; `-o` is taken if the view doesn't take it itself."""
     name = take_words(words) if has_output else None
     words = input_to_read_again(words)
-    return view(words) if name is None else write_to(name, lambda: view(words))
+    if name is not None:
+        return write_to(name, view, words)
+    status, output = output_of(view, words)
+    if output:
+        write_out(output)
+    return status

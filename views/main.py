@@ -1,20 +1,23 @@
 """The views of the program's output: the first word says which one.
 
 The wrapper `pmu` calls this with PMU_PROGRAM, the absolute path of the program, and PMU_TOP, the top of the
-repository, in the environment. Bad use gets one line on standard error and the exit 125; where the program itself
-fails its output and its exit are handed on, and a line on standard error says why. A file `-` is standard input, and
-`-o FILE` names a file for the output.
+repository, in the environment. Where the program itself fails its output and its exit are handed on, and a line on
+standard error says why; so it is where a file can't be read or written. All else that a view can't do, a fault of its
+own too, is one line on standard error and the exit 125. A file `-` is standard input, and `-o FILE` names a file for
+the output.
 """
 
-import errno
+import oldest
+
+oldest.check()
+
+# pylint: disable=wrong-import-position
 import importlib
-import os
 import sys
 
-import faults
 import files
 import program
-from forms import NOT_RUN, UNWRITABLE
+from forms import NOT_RUN
 from target import Refused
 from told import tell
 
@@ -33,8 +36,11 @@ VIEWS = {
     "test": "testing",
 }
 
+# The exit of a view that is interrupted.
+INTERRUPTED = 130
 
-def view(words):
+
+def view(words: list[str]) -> int:
     """Runs a view, and gives its exit status."""
     if not words or words[0] not in VIEWS:
         raise program.BadUse(f"no such view: {words[0] if words else 'no word'}")
@@ -42,43 +48,35 @@ def view(words):
     return files.run(run, words[1:], has_output=words[0] != "from-c")
 
 
-def main(words):
+def refused(why: str, status: int) -> int:
+    """Tells why nothing was done. What isn't the program's exit is this script's to say."""
+    tell(f"pmu: {why}" if status == NOT_RUN else why)
+    return status
+
+
+def main(words: list[str]) -> int:
+    """Runs a view, however that ends, and gives the exit status."""
     try:
-        status = view(words)
-        sys.stdout.flush()
-        return status
-    except program.BadUse as fault:
-        tell(f"pmu: {fault}")
-        return fault.status
-    except FileNotFoundError as fault:  # (of the folder for temporary files: no write gives it)
-        tell(f"pmu: {fault.strerror}")
-        return NOT_RUN
-    except Refused as why:
-        tell(f"pmu: {why}" if why.status == NOT_RUN else str(why))
-        return why.status
+        return view(words)
+    except (program.BadUse, Refused) as why:
+        return refused(str(why), why.status)
     except program.Failed as failed:
-        sys.stdout.flush()
-        sys.stdout.buffer.write(failed.output)
-        sys.stdout.buffer.flush()
-        tell(failed.sentence)
-        return failed.status
+        return handed_on(failed)
     except KeyboardInterrupt:
-        return 130
+        return INTERRUPTED
+    except Exception as fault:  # pylint: disable=broad-exception-caught
+        return refused(f"a fault of this view: {type(fault).__name__}: {fault}", NOT_RUN)
 
 
-def without_output(fault):
-    """Says why standard output isn't written. Python writes what is left at its end: let that go nowhere."""
-    tell(faults.not_written("standard output", fault))
-    os.dup2(os.open(os.devnull, os.O_WRONLY), 1)
-    return UNWRITABLE
+def handed_on(failed: program.Failed) -> int:
+    """Hands on what the program wrote before it failed, and its exit."""
+    try:
+        files.write_out(failed.output)
+    except Refused as why:
+        return refused(str(why), why.status)
+    tell(failed.sentence)
+    return failed.status
 
 
 if __name__ == "__main__":
-    if sys.stdout is None:  # (it was closed when Python began)
-        tell(faults.not_written("standard output", OSError(errno.EBADF, os.strerror(errno.EBADF))))
-        sys.exit(UNWRITABLE)
-    try:
-        exit_status = main(sys.argv[1:])
-    except OSError as lost:  # (standard output is closed or full)
-        exit_status = without_output(lost)
-    sys.exit(exit_status)
+    sys.exit(main(sys.argv[1:]))

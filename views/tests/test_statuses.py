@@ -1,0 +1,185 @@
+"""The exits of the views: the program's own, those of what was found, and 125 for all else."""
+
+import ast
+import glob
+import os
+import shutil
+import subprocess
+import sys
+import unittest
+import unittest.mock
+
+import files
+import forms
+import lines
+import main
+import oldest
+from common import VIEWS, Case, example, program, run, view
+
+LABORATORY = example("laboratory.obj")
+
+# Each view with words that it can do: the files among them are the places of an object, a script, rules or a text.
+WORKING = [
+    ["--names", "replay", LABORATORY, example("sleep.script")],
+    ["--names", "reach", LABORATORY, "RPU_0"],
+    ["--names", "isolate", LABORATORY, example("denied.script"), "APU"],
+    ["--names", "print", LABORATORY],
+    ["--names", "build", example("two-masters.txt")],
+    ["--numbers", example("port.names")],
+    ["--vcd", "replay", LABORATORY, example("sleep.script")],
+    ["--dot", "reach", LABORATORY, "RPU_0"],
+    ["lint", LABORATORY],
+    ["policy", example("pm_cfg_obj.obj"), example("apart.policy")],
+    ["diff", LABORATORY, example("denied.script"), "APU"],
+]
+
+
+def old_python():
+    """A Python that is older than the oldest one that serves, or None."""
+    for minor in range(oldest.OLDEST[1] - 1, 5, -1):
+        found = [shutil.which(f"python3.{minor}"), *sorted(glob.glob(os.path.expanduser(f"~/.pyenv/versions/3.{minor}.*/bin/python3")))]
+        for path in filter(None, found):
+            if run([path, "-c", ""])[0] == 0:
+                return path
+    return None
+
+
+class Statuses(Case):
+    def ended(self, *words):
+        """The exit of a view, which writes one line to standard error and nothing to standard output."""
+        status, output, errors = view(*words)
+        self.assertEqual((output, len(errors.splitlines())), (b"", 1), (words, errors))
+        return status, errors.decode().rstrip("\n")
+
+    def test_the_exits_are_apart(self):
+        program_s = [forms.USAGE, forms.BAD_OBJECT, forms.BAD_LINE, forms.UNREADABLE, forms.UNWRITABLE, forms.NO_MEMORY, forms.TOO_LARGE, forms.BAD_TEXT]
+        self.assertEqual(program_s, list(range(1, 9)))
+        self.assertEqual((forms.BROKEN, forms.FOUND, forms.NOT_JUDGED, forms.NOT_RUN), (101, 102, 103, 125))
+        self.assertTrue({0, 101, 102, 103} <= set(forms.DONE))
+        self.assertNotIn(forms.NOT_RUN, forms.DONE)
+
+    def test_a_file_that_is_not_there_is_4_everywhere(self):
+        none = os.path.join(self._room.name, "none")
+        for words in WORKING:
+            for place in range(1, len(words)):
+                if os.path.exists(words[place]):
+                    changed = [*words[:place], none, *words[place + 1 :]]
+                    with self.subTest(changed):
+                        status, output, errors = view(*changed)
+                        self.assertEqual((status, errors.decode()), (4, f"no file {none}\n"))
+                        self.assertIn(output, (b"", b"fault read\n"))
+        self.assertEqual(self.ended("from-c", none, "-o", none + ".obj"), (4, f"no file {none}"))
+
+    def test_a_folder_is_4_too(self):
+        room = self._room.name
+        for words in (["lint", room], ["--numbers", room], ["policy", LABORATORY, room], ["from-c", room, "-o", room + "/made"]):
+            self.assertEqual(self.ended(*words), (4, f"{room} is a folder, and no file"))
+
+    def test_a_fault_of_a_view_is_125_with_one_line(self):
+        for fault in (ValueError("one\ntwo"), RecursionError("deep"), MemoryError(), OSError(28, "No space left on device"), KeyError("k")):
+            told = []
+            with unittest.mock.patch.object(main, "view", side_effect=fault), unittest.mock.patch.object(main, "tell", told.append):
+                self.assertEqual(main.main(["names"]), 125)
+            self.assertEqual(len(told), 1)
+            self.assertTrue(told[0].startswith(f"pmu: a fault of this view: {type(fault).__name__}: "), told)
+
+    def test_no_room_for_temporary_files(self):
+        words = [sys.executable, os.path.join(VIEWS, "main.py"), "--names", "build", example("two-masters.txt")]
+        broken = "import tempfile; tempfile.tempdir = '/none'"
+        ended = subprocess.run([sys.executable, "-c", f"{broken}; import sys, runpy; sys.argv = {words[1:]}; sys.path.insert(0, {VIEWS!r}); runpy.run_path(sys.argv[0], run_name='__main__')"], capture_output=True, check=False)
+        self.assertEqual((ended.returncode, ended.stdout, len(ended.stderr.splitlines())), (125, b"", 1), ended.stderr)
+
+    def test_words_of_very_many_digits(self):
+        digits = "1" * 5000
+        self.assertEqual(lines.number_of("0" * 5000 + "7"), 7)
+        self.assertEqual(lines.number_of(digits), lines.UNFIT)
+        self.assertEqual(lines.number_of("0x" + "f" * 40), 16**40 - 1)
+        self.assertIsNone(lines.number_of("1_0"))
+        for words in (
+            ["--names", "reach", LABORATORY, digits],
+            ["--names", "isolate", LABORATORY, example("denied.script"), digits],
+            ["--dot", "reach", LABORATORY, digits],
+            ["diff", LABORATORY, example("denied.script"), digits],
+        ):
+            status, _, errors = view(*words)
+            self.assertEqual((status, len(errors.splitlines())), (8, 1), errors)
+        text = self.file("text", f"header\nsection masters\nmaster 1 {digits} 1 1 1\n")
+        script = self.file("script", f"tick {digits}\n")
+        rules = self.file("rules", f"never {digits} master 1\n")
+        for status, words in ((0, ["--numbers", script]), (0, ["--numbers", text]), (125, ["policy", LABORATORY, rules])):
+            self.assertEqual(view(*words)[0], status, words)
+        # (a line of more than 255 bytes is the fault here, as the program has it)
+        for status, words in ((3, ["--names", "replay", LABORATORY, script]), (8, ["--names", "build", text])):
+            self.assertEqual(view(*words)[0], status, words)
+        file = self.file("words.c", f"u32 XPm_ConfigObject[] = {{ {digits} }};\n")
+        self.assertEqual(self.ended("from-c", file, "-o", os.path.join(self._room.name, "made"))[0], 125)
+
+    def test_names_of_files_that_are_not_utf_8(self):
+        strange = os.fsdecode(b"\xff\xfe n\xe4me")
+        for words in WORKING:
+            for place in range(1, len(words)):
+                if os.path.exists(words[place]):
+                    with open(words[place], "rb") as file:
+                        path = self.file(strange, file.read())
+                    changed = [*words[:place], path, *words[place + 1 :]]
+                    with self.subTest(changed):
+                        plain, ended = view(*words), view(*changed)
+                        self.assertEqual((ended[0], ended[2]), (plain[0], plain[2]))
+                        self.assertEqual(ended[1].replace(os.fsencode(path), os.fsencode(words[place])), plain[1])
+        bad = self.file(strange, b"slave 1\n")
+        self.assertEqual(view("--names", "print", bad)[0], 2)
+        self.assertIn(rb"\xff\xfe n\xe4me is a text", view("lint", bad)[2].replace(b"is a text, and no", b"is a text and no").replace(b": this is", b" is"))
+        self.assertEqual(view("from-c", example("pm_cfg_obj.c"), "-o", os.path.join(self._room.name, strange + "2"))[0], 0)
+
+    def test_a_pipe_that_nobody_reads_ends_as_the_program_does(self):
+        for words in [*WORKING, ["names"]]:
+            reader, writer = os.pipe()
+            os.close(reader)
+            ended = subprocess.run([sys.executable, os.path.join(VIEWS, "main.py"), *words], stdout=writer, stderr=subprocess.PIPE, check=False)
+            os.close(writer)
+            self.assertEqual((ended.returncode, ended.stderr), (5, b"standard output can't be written: whoever read it has gone\n"), words)
+
+    def test_what_the_program_ends_with_is_handed_on(self):
+        bad = self.file("bad.obj", b"\0" * 5)
+        for words in (["--names", "print", bad], ["--dot", "reach", bad, "1"], ["policy", bad, example("apart.policy")]):
+            self.assertEqual(view(*words)[:2], program("print", bad)[:2])
+
+
+class Python(Case):
+    def test_each_file_is_read_by_the_oldest_python(self):
+        paths = [*glob.glob(os.path.join(VIEWS, "*.py")), *glob.glob(os.path.join(VIEWS, "tests", "*.py")), os.path.join(VIEWS, "check")]
+        self.assertGreater(len(paths), 30)
+        for path in paths:
+            with open(path, encoding="utf-8") as file:
+                text = file.read()
+            ast.parse(text, path, feature_version=oldest.OLDEST)
+            # (what came later: of numbers, of itertools, and of zip)
+            for later in (".bit" + "_count(", "pair" + "wise", "strict" + "=True", "import tom" + "llib", "Type" + "Alias"):
+                self.assertNotIn(later, text, path)
+
+    @unittest.skipUnless(old_python(), "no older Python is here")
+    def test_an_older_python_is_refused_in_one_line(self):
+        status, output, errors = run([old_python(), "-B", os.path.join(VIEWS, "main.py"), "names"])
+        self.assertEqual((status, output), (125, b""), errors)
+        self.assertRegex(errors.decode(), r"\Apmu: this is Python 3\.\d, and the views want 3\.9 or a newer one\n\Z")
+
+    @unittest.skipUnless(shutil.which("python3.9") and run(["python3.9", "-c", ""])[0] == 0, "no Python 3.9 is here")
+    def test_the_oldest_python_runs_each_view(self):
+        for words in [*WORKING, ["names"]]:
+            ended = run(["python3.9", "-B", os.path.join(VIEWS, "main.py"), *words])
+            self.assertEqual(ended, view(*words), words)
+
+
+class Output(Case):
+    def test_what_was_found_goes_to_the_file(self):
+        for status in (0, forms.BROKEN, forms.FOUND, forms.NOT_JUDGED, forms.NOT_RUN):
+            path = self.file("made", "old")
+            with unittest.mock.patch.object(files, "write_out") as written:
+                self.assertEqual(files.run(lambda words, status=status: print("new") or status, ["-o", path], True), status)
+            with open(path, encoding="ascii") as file:
+                self.assertEqual(file.read(), "new\n" if status in forms.DONE else "old")
+            self.assertEqual(written.call_count, 0 if status in forms.DONE else 1)
+
+
+if __name__ == "__main__":
+    unittest.main()
