@@ -1,10 +1,9 @@
 //! What a step puts out, with room that is reserved at load.
 
-ghost use Rattle.std.specs.Prelude.{◌≡◌, IfOk, IfSome};
+ghost use Rattle.std.specs.Prelude.{◌≡◌, ◌+◌, IfOk, IfSome};
 ghost use Rattle.pm_core.specs.Outbox.{HasRoom, IsEmpty, KeepsRoom};
 ghost use Rattle.pm_tell.specs.Callbacks.{callback_count};
 ghost use Rattle.pm_state.specs.Units.{unit_count};
-ghost use Rattle.pm_topology.specs.WellFormed.{IsWellFormed};
 
 use crate::replies::Answer;
 use pm_base::{BoundedList, Command, LineId, NoMemory, Unit};
@@ -41,18 +40,18 @@ impl Outbox {
     ///
     /// # Errors
     ///
-    /// `NoMemory` where there is not enough memory.
+    /// `NoMemory` if there is not enough memory, as there is none for a list that is longer than any can be.
     pub fn load(alloc: Global, t: &Topology, masters: usize) -> Result<Outbox, NoMemory>
-        requires formed { IsWellFormed t.now }
         ensures room { IfOk result (HasRoom t.now masters) }
         ensures empty { IfOk result IsEmpty }
     {
-        let units = count(t);
+        let units = count(t).ok_or(NoMemory)?;
+        let commands = most_commands(units, t.powers.len()).ok_or(NoMemory)?;
         let callbacks = most_callbacks(units, masters).ok_or(NoMemory)?;
         Ok(Outbox {
             moved: BoundedList::with_room(alloc, units)?,
             pulse: None,
-            done: BoundedList::with_room(alloc, units + t.powers.len() + 1)?,
+            done: BoundedList::with_room(alloc, commands)?,
             starts: BoundedList::with_room(alloc, t.procs.len())?,
             late: BoundedList::with_room(alloc, masters)?,
             callbacks: BoundedList::with_room(alloc, callbacks)?,
@@ -75,12 +74,21 @@ impl Outbox {
     }
 }
 
-/// The number of units of a chip.
-fn count(t: &Topology) -> usize
-    requires { IsWellFormed t.now }
-    ensures { result ≡ unit_count t.now }
+/// The number of units of a chip. There is none where no list is that long.
+fn count(t: &Topology) -> Option<usize>
+    ensures { IfSome result (λ count. count ≡ unit_count t.now) }
 {
-    t.slaves.len() + t.procs.len() + t.powers.len() + t.lines.len()
+    let nodes = t.slaves.len().checked_add(t.procs.len())?;
+    nodes
+        .checked_add(t.powers.len())?
+        .checked_add(t.lines.len())
+}
+
+/// The number of device commands of a step at most, of so many units and power nodes.
+fn most_commands(units: usize, powers: usize) -> Option<usize>
+    ensures { IfSome result (λ count. count ≡ units + powers + 1) }
+{
+    units.checked_add(powers)?.checked_add(1)
 }
 
 /// The number of callbacks of a step at most, of so many units and masters. There is none where no list is
