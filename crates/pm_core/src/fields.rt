@@ -12,16 +12,18 @@ use pm_topology::Topology;
 use std::alloc::Global;
 use std::test::Fail;
 
-/// Takes a book apart by a pattern that names every field and has no rest. The rows of the book are in its
-/// `Rows` alone, among the tables: what is kept of the values has no row, and what is logged of a step has
-/// none either. A further field has to be named here, so that nobody adds a second copy of the rows unseen.
+/// Takes a book apart by a pattern that names every field and has no rest, as each part with fields of its own takes
+/// itself apart. A further field has to be named at its struct.
 fn take_apart(book: &Book) {
     let Book {
-        tables: _,
-        caches: _,
-        telling: _,
+        tables,
+        caches,
+        telling,
         served: _,
     } = book;
+    tables.name_fields();
+    caches.name_fields();
+    telling.name_fields();
 }
 
 fn chip(alloc: Global) -> Result<Topology, NoMemory>

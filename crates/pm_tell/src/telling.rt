@@ -30,6 +30,17 @@ pub struct Telling {
 }
 
 impl Telling {
+    /// Names each field by a pattern that has no rest: none of them has a row. A further field has to be named here.
+    pub fn name_fields(&self) {
+        let Telling {
+            modes: _,
+            along: _,
+            asks: _,
+            ended: _,
+            notices: _,
+        } = self;
+    }
+
     /// Room for so many units, masters and processors.
     pub fn load(
         alloc: Global,
