@@ -12,6 +12,7 @@ use Rattle.pm_base.specs.declared.names.NodeId.{NodeId}
 use Rattle.pm_base.specs.declared.names.Unit.{Unit}
 use Rattle.pm_base.specs.declared.names.Unit.TheVariants.{Node, Line}
 use Rattle.pm_ipi.specs.Callbacks.{init_suspend, notify}
+use Rattle.pm_tell.specs.Callbacks.{acknowledgement}
 use Rattle.pm_ipi.specs.declared.responses.Response.{Response}
 use Rattle.pm_tell.specs.declared.callbacks.Callback.{Callback}
 use Rattle.pm_core.specs.declared.outbox.Done.{Done}
@@ -41,7 +42,7 @@ use Rattle.pm_trace.specs.declared.step.StepLine.{StepLine}
 use Rattle.pm_trace.specs.declared.step.StepLine.TheVariants as told
 use Rattle.pm_trace.specs.Line.{numbers}
 use Rattle.pm_trace.specs.Notes.{note_words}
-use Rattle.pm_trace.specs.Step.{acknowledgement, answer_line, command_name, late_line, notices_of, told_lines, step_words}
+use Rattle.pm_trace.specs.Step.{answer_line, command_name, late_line, notices_of, told_lines, step_words}
 use Rattle.pm_drive.specs.Drive.{Given, drive_line, driven, first_answers, give, later_answers, until}
 use Rattle.pm_drive.specs.Completed.{completed_in}
 use Rattle.pm_drive.specs.Text.{notes_of}

@@ -3,10 +3,10 @@ use Rattle.std.specs.Prelude.{ℕ, Bool, if◌then◌else◌, List, [], ◌∷�
 use Rattle.std.specs.List.{concat}
 use Rattle.pm_base.specs.declared.names.Unit.{Unit}
 use Rattle.pm_base.specs.declared.names.Unit.TheVariants.{Node, Line}
-use Rattle.pm_base.specs.declared.names.NodeId.{NodeId}
-use Rattle.pm_ipi.specs.Callbacks.{acknowledge, callback_words}
+use Rattle.pm_ipi.specs.Callbacks.{callback_words}
 use Rattle.pm_ipi.specs.Responses.{response_words}
 use Rattle.pm_tell.specs.declared.callbacks.Callback.{Callback}
+use Rattle.pm_tell.specs.Callbacks.{acknowledgement}
 use Rattle.pm_core.specs.declared.outbox.Done.{Done}
 use Rattle.pm_tell.specs.declared.late.Late.{Late}
 use Rattle.pm_core.specs.declared.outbox.Outbox.{Outbox}
@@ -39,10 +39,6 @@ step_words (told.Call callback) = word.Name (codes "call") ∷ numbers (callback
 -- a late reply tells its status alone
 abbrev pub late_line : Late → StepLine
 late_line late = told.Reply late.master (record { status = late.status; words = 0 ∷ 0 ∷ 0 ∷ [] })
-
--- the acknowledge callback, which has no fourth argument
-abbrev pub acknowledgement : NodeId → NodeId → ℕ → ℕ → Callback
-acknowledgement master node status point = record { master = master; id = acknowledge; args = node.0 ∷ status ∷ point ∷ 0 ∷ [] }
 
 -- the line of an answer: none where nothing is written
 abbrev pub answer_line : Answer → Option StepLine
