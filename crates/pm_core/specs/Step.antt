@@ -23,7 +23,8 @@ use Rattle.pm_state.specs.Values.{value, point}
 use Rattle.pm_calls.specs.Verdict.{response_of}
 use Rattle.pm_state.specs.Nodes.{master_mode}
 use Rattle.pm_tell.specs.Telling.{notes_after}
-pub use Rattle.pm_step.specs.Step.{may_call, call_at, call_in, verdict, message_stages, is_ipi, configures, unless_halted, stages, path, served, says, asks, renews, pulse, time_of, ended, forgets, opening, notices, news, modes_in, talk, effect, is_refused, is_action, may_change, touched_at, row_place, touched_in, touched_by, touched, is_proc_in, leaves_values, touched_unless}
+pub use Rattle.pm_step.specs.Step.{may_call, call_at, call_in, verdict, message_stages, is_ipi, configures, unless_halted, stages, path, served, says, asks, renews, pulse, time_of, ended, forgets, opening, notices, news, modes_in, talk, effect, is_refused}
+pub use Rattle.pm_step.specs.Within.{is_action, may_change, touched_at, row_place, touched_in, touched_by, touched, is_proc_in, leaves_values, touched_unless}
 
 -- how a response reaches the caller, by the acknowledge kind of the call, in the book after it: the callback is
 -- written where the caller is active or suspending then

@@ -19,7 +19,8 @@ use Rattle.pm_calls.specs.Views.{row_view}
 use Rattle.pm_calls.specs.calls.{called, only_reads, shape_of}
 use Rattle.pm_calls.specs.calls.SetWakeupSource.{arming}
 use Rattle.pm_calls.proofs.ShapeLaw.{called_shaped}
-use Rattle.pm_step.specs.Step.{call_at, keeps_procs, message_stages}
+use Rattle.pm_step.specs.Step.{call_at, message_stages}
+use Rattle.pm_step.specs.Within.{keeps_procs}
 use Rattle.pm_step.proofs.MessageLaw.{of_message}
 use Rattle.pm_step.proofs.ModesLaw.{follow_keeps}
 use Rattle.pm_step.proofs.Refused.{none_staged, read_at}

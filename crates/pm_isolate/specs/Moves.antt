@@ -9,7 +9,7 @@ use Rattle.pm_ipi.specs.Calls.{call_of}
 use Rattle.pm_state.specs.State.{State}
 use Rattle.pm_state.specs.Units.{moved}
 use Rattle.pm_state.specs.Values.{value}
-use Rattle.pm_step.specs.Step.{is_action, keeps_procs}
+use Rattle.pm_step.specs.Within.{is_action, keeps_procs}
 use Rattle.pm_core.specs.Step.{effect}
 use Rattle.pm_run.specs.Run.{Stand, setup_of, split}
 use Rattle.pm_isolate.specs.Marks.{Marks, has_place}

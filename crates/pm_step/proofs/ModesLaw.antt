@@ -29,7 +29,8 @@ use Rattle.pm_state.specs.Stages.{after_stage, after_stages, follow_from}
 use Rattle.pm_state.specs.State.{CoreHalf, Fixed, Now, State}
 use Rattle.pm_calls.specs.Events.{boot_at, boot_by, booted, interrupt_at, interrupt_by, raised_at, wait_at, wait_by, waits, woken_at, woken_by, woken_from, woken_in}
 use Rattle.pm_values.specs.Notifications.{is_used}
-use Rattle.pm_step.specs.Step.{is_action, stages}
+use Rattle.pm_step.specs.Step.{stages}
+use Rattle.pm_step.specs.Within.{is_action}
 use Rattle.std.specs.Prelude.{option_map}
 use Rattle.std.proofs.lemmas.Option.{slice_get_cases}
 use Rattle.pm_state.proofs.PlacedLemmas.{slice_get-placed}

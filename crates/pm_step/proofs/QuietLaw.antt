@@ -24,7 +24,8 @@ use Rattle.pm_state.specs.Sound.{IsSound}
 use Rattle.pm_state.specs.Stages.{after_stage, follow_from, follow_to}
 use Rattle.pm_state.specs.State.{CoreHalf, Fixed, State}
 use Rattle.pm_calls.specs.Events.{boot_at, boot_by, booted, interrupt_at, interrupt_by, raised_at, wait_at, wait_by, waits, woken_at, woken_by, woken_from, woken_in}
-use Rattle.pm_step.specs.Step.{is_idle, is_proc_in, leaves_values, served, stages}
+use Rattle.pm_step.specs.Step.{served, stages}
+use Rattle.pm_step.specs.Within.{is_idle, is_proc_in, leaves_values}
 use Rattle.pm_step.proofs.RestsLaw.{LeavesAll, Rests, none_leave_all, same_leaves_all, unserved_rests}
 use Rattle.pm_step.proofs.AwakeLaw.{LeavesValues, flat, idle_leaves, none_leaves, put_leaves}
 

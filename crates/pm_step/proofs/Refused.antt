@@ -22,7 +22,8 @@ use Rattle.pm_state.specs.Prims.{Prim}
 use Rattle.pm_state.specs.State.{State}
 use Rattle.pm_calls.specs.calls.{called, only_reads}
 use Rattle.pm_step.proofs.RestsLaw.{LeavesAll, Rests, none_leave_all, rests_stays, unserved_rests}
-use Rattle.pm_step.specs.Step.{call_in, effect, call_at, may_call, may_change, is_refused, message_stages, served, stages, time_of, verdict}
+use Rattle.pm_step.specs.Step.{call_in, effect, call_at, may_call, is_refused, message_stages, served, stages, time_of, verdict}
+use Rattle.pm_step.specs.Within.{may_change}
 use Rattle.pm_state.specs.Talk.{wait_of}
 use Rattle.pm_state.specs.Values.{master_place}
 use Rattle.pm_calls.specs.Verdict.{Called, is_refusal, pulse_of, response_of, says_of, stages_by, verdict_by, verdict_of}

@@ -40,7 +40,8 @@ use Rattle.pm_tell.specs.Served.{kept_of, says_in}
 use Rattle.pm_values.specs.Along.{IsTrail, Trail, down_in, is_down, modes_of, no_turns, trail_from}
 use Rattle.pm_values.specs.Starts.{was_down}
 use Rattle.pm_values.specs.Turns.{turns_along, turns_of}
-use Rattle.pm_step.specs.Step.{call_at, call_in, is_once_in, is_quiet, keeps_procs, may_call, may_change, may_move, message_stages, path, rests, served, stages, time_of, verdict}
+use Rattle.pm_step.specs.Step.{call_at, call_in, may_call, message_stages, path, served, stages, time_of, verdict}
+use Rattle.pm_step.specs.Within.{is_once_in, is_quiet, keeps_procs, may_change, may_move, rests}
 use Rattle.pm_step.proofs.MessageLaw.{of_message}
 use Rattle.pm_step.proofs.ModesLaw.{follow_keeps}
 use Rattle.pm_step.proofs.Refused.{none_kept, none_staged, read_at, reads_tell, unchanged_rests}

@@ -38,7 +38,8 @@ use Rattle.pm_values.specs.Along.{IsTrail, Trail, modes_of}
 use Rattle.pm_values.specs.Caches.{AreKept}
 use Rattle.pm_values.specs.Starts.{was_down}
 use Rattle.pm_values.specs.Touches.{ChangesModes, ChangesRows, IsOfModes, IsStill, IsTouched, with_core}
-use Rattle.pm_step.specs.Step.{call_at, is_action, leaves_values, may_change, message_stages, path, served, stages, touched, touched_at, touched_by, touched_unless}
+use Rattle.pm_step.specs.Step.{call_at, message_stages, path, served, stages}
+use Rattle.pm_step.specs.Within.{is_action, leaves_values, may_change, touched, touched_at, touched_by, touched_unless}
 use Rattle.pm_step.proofs.AwakeLaw.{LeavesValues, none_leaves, same_twice}
 use Rattle.pm_step.proofs.MessageLaw.{of_message}
 use Rattle.pm_step.proofs.ModesLaw.{event_turns}

@@ -6,7 +6,7 @@ use Rattle.pm_tell.specs.declared.telling.Telling.{Telling}
 use Rattle.pm_tell.specs.Served.{kept_of, says_in}
 use Rattle.pm_values.specs.Along.{modes_of, trail_from}
 use Rattle.pm_state.specs.State.{State}
-use Rattle.pm_step.specs.Step.{keeps_procs}
+use Rattle.pm_step.specs.Within.{keeps_procs}
 
 -- the modes before the step are those of this book, and what is logged along it begins with this book
 pub record IsFresh (book : State) (telling : Telling) : Type 0 where

@@ -1,6 +1,7 @@
 use Rattle.std.proofs.Common.{◌≡◌, false, true, length, sym, ◌∙◌, ap, subst, arith}
 use Rattle.pm_step.specs.Fresh.{IsFresh}
-use Rattle.pm_step.specs.Step.{may_move, path, rests}
+use Rattle.pm_step.specs.Step.{path}
+use Rattle.pm_step.specs.Within.{may_move, rests}
 use Rattle.pm_state.specs.State.{Fixed, State}
 use Rattle.pm_state.specs.Units.{units}
 use Rattle.pm_values.specs.Along.{HasPlaces as HasTrail, IsTrail, Trail, modes_of, trail_from}

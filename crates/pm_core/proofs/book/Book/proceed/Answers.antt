@@ -30,7 +30,7 @@ use Rattle.pm_calls.specs.Verdict.{aborted_by}
 use Rattle.pm_values.proofs.CachesLaw.{kept_places, kept_talked}
 use Rattle.pm_step.proofs.EndedLaw.{IsTold, stages_talk, step_told}
 use Rattle.pm_values.proofs.NoticesLaw.{notices_are}
-use Rattle.pm_step.specs.Step.{is_quiet, leaves_values, rests}
+use Rattle.pm_step.specs.Within.{is_quiet, leaves_values, rests}
 use Rattle.pm_step.proofs.RestsLaw.{Rests, rests_stays}
 use Rattle.pm_step.proofs.StaysLaw.{plain_is, quiet_rests}
 use Rattle.pm_core.proofs.PassLaw.{rests_puts}

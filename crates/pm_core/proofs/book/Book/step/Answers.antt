@@ -1,7 +1,7 @@
 use Rattle.std.proofs.Common.{◌≡◌, true, sym, ◌∙◌, ap, subst}
 use Rattle.pm_state.specs.State.{State}
 use Rattle.pm_core.specs.Step.{effect, answer_by}
-use Rattle.pm_step.specs.Step.{is_idle}
+use Rattle.pm_step.specs.Within.{is_idle}
 use Rattle.pm_step.proofs.QuietLaw.{idle_rests, idle_unserved}
 use Rattle.pm_step.proofs.RestsLaw.{Rests, rests_stays}
 use Rattle.pm_core.proofs.PassLaw.{rests_puts}
