@@ -10,6 +10,7 @@ from typing import NamedTuple, Optional
 
 import lines
 import names
+import published
 
 APU = 1
 BLOCKING, NO_ANSWER = 2, 1
@@ -17,15 +18,6 @@ SUSPEND_TO_RAM, ANY_LATENCY = 15, 0xFFFFFFFF
 
 # What the kernel makes of a status (zynqmp_pm_ret_code in drivers/firmware/xilinx/zynqmp.c): its error numbers.
 ERRORS = {-13: "-EACCES", -22: "-EINVAL", -87: "-EUSERS", -125: "-ECANCELED", -524: "-ENOTSUPP"}
-
-# The published clocks (include/dt-bindings/clock/xlnx-zynqmp-clk.h) that this core has: their names there, with the
-# published number and the core's own.
-CLOCKS = {
-    "apll": (2, 0), "vpll": (4, 1), "dpll": (3, 2), "rpll": (1, 3), "iopll": (0, 4), "uart0_ref": (56, 5),
-    "uart1_ref": (57, 6), "sata_ref": (22, 7), "sdio0_ref": (54, 8), "sdio1_ref": (55, 9), "gem0_ref": (104, 10),
-    "ddr_ref": (21, 11), "dp_video_ref": (16, 12), "gpu_ref": (24, 13),
-}  # fmt: skip
-CLOCK_OF = dict(CLOCKS.values())
 
 # Calls whose words mean other things on a board: dividers and parents are packed and counted otherwise there.
 OTHERWISE = (39, 40, 43, 44)
@@ -80,9 +72,9 @@ def message(master: int, call: int, words: tuple, answer: str = ""):
     if call in OTHERWISE:
         return Left(f"{known.name} has words of another meaning on a board")
     if call in CLOCK_CALLS:
-        if words[0] not in CLOCK_OF:
-            return Left(f"this core hasn't the published clock {words[0]}")
-        words = (CLOCK_OF[words[0]],)
+        if words[0] not in published.OURS:
+            return Left(f"this core hasn't the clock {published.name_of(words[0])}")
+        words = (published.OURS[words[0]],)
     words = tuple(words[: len(known.arguments)])
     return Entry(master, call, words, answer)
 
@@ -113,9 +105,10 @@ def read_clock(found):
     if found[1]:
         call = 36 if found[1] == "enable" else 37
         return message(APU, call, (int(found[3]),), answer_of_return(int(found[4]), call))
-    published = CLOCKS.get(found[5], (None,))[0]
-    return Left(f"this core hasn't the clock {found[5]}") if published is None else message(
-        APU, 38, (published,), answer_of_return(int(found[6]), 38))  # fmt: skip
+    clock = published.ours_of(found[5])
+    if clock is None:
+        return Left(f"this core hasn't the clock {found[5].upper()}")
+    return message(APU, 38, (clock,), answer_of_return(int(found[6]), 38))
 
 
 def read_kernel(line: str, _state: dict):

@@ -34,6 +34,7 @@ VIEWS = {
     "names": "names",
     "import": "import_log",
     "test": "testing",
+    "dts": "dts",
 }
 
 # The exit of a view that is interrupted.

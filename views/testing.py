@@ -22,7 +22,7 @@ from program import BadUse, Failed, read_file, run_text, write_file
 from target import Target
 from told import in_one_line, tell
 
-# How many lines of a script are taken up to it: of each such line one run more.
+# The options, and whether a word follows each.
 OPTIONS = {"--tap": False, "--all": False, "--junit": True, "--topology": True}
 
 

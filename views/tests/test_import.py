@@ -34,7 +34,7 @@ class Formats(Case):
         self.assertEqual(told, [
             "linux-dynamic-debug.log: 16 calls; 22 lines passed over that have none",
             "linux-dynamic-debug.log: 1 call left out: dividers and parents of clocks have another meaning on a board",
-            "linux-dynamic-debug.log: 1 call left out: this core hasn't the published clock 63",
+            "linux-dynamic-debug.log: 1 call left out: this core hasn't the clock CAN0_REF",
         ])  # fmt: skip
 
     def test_a_probe_of_the_kernels_function(self):
