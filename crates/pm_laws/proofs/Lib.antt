@@ -20,6 +20,7 @@ pub mod NoteChangesLaw
 pub mod ModesLaw
 pub mod NamedLaw
 pub mod NoticesLaw
+pub mod ObjectsLaw
 pub mod OwnsLaw
 pub mod OpeningLaw
 pub mod MayCallLaw

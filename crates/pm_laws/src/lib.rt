@@ -14,4 +14,4 @@ pub use laws::{
     rows_follow_alike, starts_agree, steps_agree, talks_agree, values_agree, views_agree,
 };
 pub use runs::run;
-pub use worlds::{quiet_event, step_both, step_left};
+pub use worlds::{loaded_objects_are_objects, quiet_event, step_both, step_left};

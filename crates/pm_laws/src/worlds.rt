@@ -1,13 +1,20 @@
 //! Two books side by side, one of them without the messages of a master.
 
-ghost use Rattle.std.specs.List.{list_any};
-ghost use Rattle.std.specs.Prelude.{◌≡◌, ◌==◌, IsTrue};
+ghost use Rattle.std.specs.List.{AllByRecursion as Each, list_any};
+ghost use Rattle.std.specs.Prelude.{◌≡◌, ◌==◌, IsTrue, List};
+ghost use Rattle.pm_base.specs.declared.events.Event.{Event};
 ghost use Rattle.pm_base.specs.declared.events.Event.TheVariants.{Pass};
+ghost use Rattle.pm_object.specs.Grammar.{IsObject};
+ghost use Rattle.pm_object.specs.declared.attached.Attached.{Attached};
+ghost use Rattle.pm_object.specs.declared.object.Object.{Object};
+ghost use Rattle.pm_topology.specs.declared.topology.Topology.{Topology};
+ghost use Rattle.pm_state.specs.Load.{load_of};
+ghost use Rattle.pm_state.specs.State.{State};
 ghost use Rattle.pm_core.specs.Outbox.{HasRoomFor, Holds, KeepsRoom};
 ghost use Rattle.pm_core.specs.Step.{effect, outputs};
 ghost use Rattle.pm_laws.specs.Agree.{Agree};
 ghost use Rattle.pm_laws.specs.Beside.{IsOwn};
-ghost use Rattle.pm_laws.specs.Border.{AreObjects};
+ghost use Rattle.pm_laws.specs.Border.{AreObjects, HoldsObject};
 ghost use Rattle.pm_laws.specs.Left.{border_in, stepped};
 ghost use Rattle.pm_laws.specs.Quiet.{quiet_event};
 ghost use Rattle.pm_laws.specs.Told.{SameTold, TellsNothing};
@@ -32,10 +39,18 @@ pub fn quiet_event<'e>(m: NodeId, event: &'e Event, pass: &'e Event) -> &'e Even
     }
 }
 
+/// The objects of a book at load are well formed where the loaded one is and each object that is attached, as those are that
+/// `decode` reads; and a step leaves the objects of its book. So a caller that loads its books can step them side by side.
+pub fn loaded_objects_are_objects()
+    ensures load { (object : Object) (attached : List Attached) (topology : Topology) → IsObject object
+        → Each HoldsObject attached → AreObjects (load_of object attached topology).fixed }
+    ensures step { (event : Event) (book : State) → AreObjects book.fixed → AreObjects (effect event book).fixed }
+{}
+
 /// One core event in the one of two books, and in the other the same event, or nothing where it is a message of a master. The
 /// books have one loaded object, which has the master, the same attached ones and one chip; each of these objects that can be
-/// in force is well formed. They agree beyond the reach of the master; both outboxes were loaded for them. What is beyond that
-/// reach can't tell the two apart. No memory is taken.
+/// in force is well formed, as `loaded_objects_are_objects` has it. They agree beyond the reach of the master; both outboxes
+/// were loaded for them. What is beyond that reach can't tell the two apart. No memory is taken.
 ///
 /// Beyond it they have the same values and modes, and the same is told: the same units move, the same processors start, at
 /// the same addresses, and the same reset line is pulsed, or none; the same is asked of masters there, the same requests to
@@ -87,9 +102,9 @@ pub fn step_both(
 
 /// One core event of a master's own in the one of two books, a message of it or the wait of a processor of it, and
 /// nothing in the other. The books have one loaded object, the same attached ones and one chip; each of these objects that
-/// can be in force is well formed. They agree beyond the reach of the master; both outboxes were loaded for them. What is
-/// beyond that reach can't tell the two apart: the books have the same values and modes there, and neither step tells
-/// anything there. No memory is taken.
+/// can be in force is well formed, as `loaded_objects_are_objects` has it. They agree beyond the reach of the master; both
+/// outboxes were loaded for them. What is beyond that reach can't tell the two apart: the books have the same values and
+/// modes there, and neither step tells anything there. No memory is taken.
 ///
 /// Each outbox has the room that it had, which is that of the books' chip and masters.
 pub fn step_left(
