@@ -1,6 +1,9 @@
 //! The files and the standard output of the host, as inputs and sink of a run.
 #![tactic(auto)]
 
-mod host;
+mod inputs;
+mod sink;
+mod writer;
 
-pub use host::{HostInputs, HostSink};
+pub use inputs::HostInputs;
+pub use sink::HostSink;
