@@ -125,7 +125,7 @@ def usage(run):
     if first not in FORMS:
         return f"no form begins with '{first}'{like(first, (*FORMS, *OTHER_WORDS))}: {HELP}"
     if form_of(written):
-        return "the program reads no word that isn't UTF-8: " + next(word for word in written if not word.isascii())
+        return "the program reads no word that isn't UTF-8: " + next(word for word in written if any("\udc80" <= it <= "\udcff" for it in word))
     given = len(written) - 1
     return f"'{first}' takes {taken_by(first)}, and {given} {'is' if given == 1 else 'are'} given"
 
@@ -199,19 +199,19 @@ def unreadable(run):
 
 
 def unwritable(target):
-    """Why the output couldn't be written: a write of nothing new tells it, if it still can't be."""
+    """Why the output couldn't be written: a write of nothing new tells it, if it still can't be. None if whoever read it
+    has gone, as `head` does once it has its lines."""
     name = target.name if target else "standard output"
     try:
         os.write(target.number if target else 1, b"\n" if target or not os.isatty(1) else b"")
     except OSError as fault:
-        return not_written(name, fault)
+        return None if fault.errno == errno.EPIPE else not_written(name, fault)
     return f"{name} couldn't be written to its end"
 
 
 def not_written(name, fault):
     """What is said of an output by the fault of a write."""
-    why = "whoever read it has gone" if fault.errno == errno.EPIPE else fault.strerror
-    return f"{name} can't be written: {why}"
+    return f"{name} can't be written: {fault.strerror}"
 
 
 def too_large(run):
@@ -326,3 +326,12 @@ def sentence(program, words, written, status, target):
         BAD_TEXT: bad_text,
     }  # fmt: skip
     return tell[status](run) if status in tell else f"the program ended with {status}, which is none of its exits"
+
+
+def told(program, words, written, status, target):
+    """That sentence, or, if it can't be found, that the program ended so; None if nothing is to be said."""
+    try:
+        return sentence(program, words, written, status, target)
+    except Exception:  # pylint: disable=broad-except
+        # (what is said of a fault is no reason for another exit than the program's)
+        return f"the program ended with {status}, and why can't be told"

@@ -1,23 +1,23 @@
-"""The files that the words of a view name otherwise: `-` is standard input, and `-o FILE` takes the output."""
+"""The files that the words of a view name otherwise: `-` is standard input, and that of `-o FILE` takes the output."""
 
 import contextlib
 import errno
 import io
 import os
 import sys
-from typing import Callable
+from typing import Callable, Optional
 
 import faults
 from forms import DONE, UNWRITABLE
 from program import BadUse
-from target import Refused, Target, take_words
+from target import Refused, Target
 
 View = Callable[[list[str]], int]
 
 
 def input_to_read_again(words: list[str]) -> list[str]:
     """The words with `/dev/stdin` in place of `-`: a file from now on, which has what standard input had."""
-    inputs = [k for k, word in enumerate(words) if word == "-" and words[max(k - 1, 0)] != "-o"]
+    inputs = [k for k, word in enumerate(words) if word == "-"]
     if len(inputs) > 1:
         raise BadUse("standard input can be only one of the files")
     if not inputs:
@@ -44,7 +44,9 @@ def write_out(output: bytes) -> None:
     except OSError as fault:
         # (Python writes what is left at its end: let that go nowhere)
         os.dup2(os.open(os.devnull, os.O_WRONLY), 1)
-        raise Refused(faults.not_written("standard output", fault), UNWRITABLE) from None
+        # (nothing is said if whoever read it has gone, as `head` does)
+        why = "" if fault.errno == errno.EPIPE else faults.not_written("standard output", fault)
+        raise Refused(why, UNWRITABLE) from None
 
 
 def output_of(view: View, words: list[str]) -> tuple[int, bytes]:
@@ -70,9 +72,8 @@ def write_to(name: str, view: View, words: list[str]) -> int:
     return status
 
 
-def run(view: View, words: list[str], has_output: bool) -> int:
-    """Runs a view over its words; `-o` is taken if the view doesn't take it itself."""
-    name = take_words(words) if has_output else None
+def run(view: View, words: list[str], name: Optional[str]) -> int:
+    """Runs a view over its words; what it writes goes to the file of this name, if it isn't None."""
     words = input_to_read_again(words)
     if name is not None:
         return write_to(name, view, words)

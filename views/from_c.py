@@ -1,9 +1,10 @@
-"""`from-c FILE.c -o FILE.obj`: the object of the C array that the vendor's tools write, as `pm_cfg_obj.c`.
+"""`from-c FILE.c [-o FILE.obj]`: the object of the C array that the vendor's tools write, as `pm_cfg_obj.c`.
 
 The file has one array `XPm_ConfigObject` of words. A word is an expression of numbers, of names that the file
 defines, and of those that the headers of the tools define, which are here.
 """
 
+import sys
 from typing import Iterator, Optional
 
 import c_source
@@ -12,11 +13,10 @@ import names
 import objects
 import program
 from c_expression import Token
-from target import Target
 
 ARRAY = "XPm_ConfigObject"
 
-USAGE = "usage: ./pmu from-c FILE.c -o FILE.obj"
+USAGE = "usage: ./pmu from-c FILE.c [-o FILE.obj]"
 
 # What the tools' headers, and the files that they write, define beside nodes, reset lines and capabilities.
 DEFINED = {
@@ -128,22 +128,10 @@ def judged(file: str, words: list[tuple[int, int]], last: int) -> bytes:
     return data
 
 
-def write_file(name: str, data: bytes) -> None:
-    """Writes the object beside its name, and puts it there once it is whole."""
-    target = Target(name)
-    try:
-        target.put(data)
-    finally:
-        target.drop()
-
-
 def main(words: list[str]) -> int:
     """Makes the object of a C file, and gives the exit."""
-    if len(words) == 3 and words[0] == "-o":
-        words = [words[2], *words[:2]]
-    if len(words) != 3 or words[1] != "-o":
+    if len(words) != 1:
         raise program.BadUse(USAGE)
-    file, _, to = words
-    text, name = program.read_file(file).decode("latin-1"), faults.name_of(file)
-    write_file(to, judged(name, *words_of(name, text)))
+    text, name = program.read_file(words[0]).decode("latin-1"), faults.name_of(words[0])
+    sys.stdout.buffer.write(judged(name, *words_of(name, text)))
     return 0

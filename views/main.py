@@ -18,7 +18,7 @@ import sys
 import files
 import program
 from forms import NOT_RUN
-from target import Refused
+from target import Refused, take_words
 from told import tell
 
 # The first word, and the file of this folder whose `main` takes the words after it.
@@ -43,15 +43,17 @@ INTERRUPTED = 130
 
 def view(words: list[str]) -> int:
     """Runs a view, and gives its exit status."""
+    name = take_words(words)
     if not words or words[0] not in VIEWS:
         raise program.BadUse(f"no such view: {words[0] if words else 'no word'}")
     run = importlib.import_module(VIEWS[words[0]]).main
-    return files.run(run, words[1:], has_output=words[0] != "from-c")
+    return files.run(run, words[1:], name)
 
 
 def refused(why: str, status: int) -> int:
-    """Tells why nothing was done. What isn't the program's exit is this script's to say."""
-    tell(f"pmu: {why}" if status == NOT_RUN else why)
+    """Tells why nothing was done, if there is something to say. What isn't the program's exit is this script's to say."""
+    if why:
+        tell(f"pmu: {why}" if status == NOT_RUN else why)
     return status
 
 
@@ -75,7 +77,8 @@ def handed_on(failed: program.Failed) -> int:
         files.write_out(failed.output)
     except Refused as why:
         return refused(str(why), why.status)
-    tell(failed.sentence)
+    if failed.sentence:
+        tell(failed.sentence)
     return failed.status
 
 

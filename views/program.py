@@ -78,7 +78,7 @@ def run(words: Sequence[str], written: Optional[Sequence[str]] = None) -> bytes:
             raise BadUse(f"the program can't be run: {fault.strerror}: {program}") from None
         if ended.returncode != 0:
             status = ended.returncode if ended.returncode > 0 else 128 - ended.returncode
-            raise Failed(ended.stdout, status, faults.sentence(program, given, list(written or words), status, None))
+            raise Failed(ended.stdout, status, faults.told(program, given, list(written or words), status, None))
     return ended.stdout
 
 

@@ -2,14 +2,14 @@
 
 Runs the program with these words, in the caller's folder and with its exit status. Of the words, `-o FILE` has the
 output go to FILE, and a file `-` is standard input. If the exit isn't 0, a line on standard error says what is wrong.
-The program has the caller's own input and output, so that a large run takes no longer for it.
+Words that have no form are refused here; if PROGRAM is empty nothing else is done. The program has the caller's own input and output, so that a large run takes no longer for it.
 """
 import os
 import signal
 import stat
 import sys
 
-from forms import LIMITS, NOT_RUN, files_of
+from forms import LIMITS, NOT_RUN, USAGE, files_of, form_of
 from target import Refused, Target, take_words
 from told import tell
 
@@ -86,18 +86,33 @@ def end_by(number):
     return 128 + number
 
 
+def judge(words):
+    """Refuses words that have no form of the program's."""
+    # (bytes of a word that are no UTF-8 are such characters)
+    is_text = not any("\udc80" <= it <= "\udcff" for word in words for it in word)
+    if not (form_of(words) and is_text):
+        from faults import Run, usage
+
+        raise Refused(usage(Run("", words, words)), USAGE)
+
+
 def main(program, words):
     target = None
     try:
         name = take_words(words)
+        judge(words)
+        if not program:
+            return 0
         target = None if name is None else Target(name)
         written = [*words]
         take_input(words)
         status = run(program, words, target)
         if status > 0:
-            from faults import sentence
+            from faults import told
 
-            tell(sentence(program, words, written, status, target))
+            why = told(program, words, written, status, target)
+            if why:
+                tell(why)
         elif not status and target:
             target.take()
     except Refused as why:

@@ -1,7 +1,8 @@
-"""The words `-o FILE`, and the file: it takes what was written only if the exit is 0."""
+"""The options of the output, `-o FILE` and its kin, and the file: it takes what was written only if the work is done."""
 
 import os
 import stat
+from typing import Optional
 
 from forms import NOT_RUN, UNWRITABLE
 
@@ -81,15 +82,25 @@ def umask():
     return mask
 
 
-def take_words(words):
-    """Takes `-o FILE` out of the words, and gives FILE, or None if they haven't it."""
-    places = [k for k, word in enumerate(words) if word == "-o"]
-    if not places:
-        return None
-    if len(places) > 1:
+def take_words(words: list[str]) -> Optional[str]:
+    """Takes the options of the output out of the words: `-o FILE`, `-oFILE`, `--output FILE`, `--output=FILE`. Gives FILE,
+    or None if there is none. Behind the first `--`, which goes too, no word is an option: one that begins with - is a file."""
+    names, kept, rest = [], [], iter(words)
+    for word in rest:
+        if word == "--":
+            kept += [f"./{it}" if it.startswith("-") and it != "-" else it for it in rest]
+        elif word in ("-o", "--output"):
+            name = next(rest, None)
+            if name is None:
+                raise Refused(f"{word} is the last word, and no file follows it")
+            names.append(name)
+        elif word.startswith("--output="):
+            names.append(word.removeprefix("--output="))
+        elif word.startswith("-o"):
+            names.append(word.removeprefix("-o"))
+        else:
+            kept.append(word)
+    if len(names) > 1:
         raise Refused("-o is given more than once (a file of that name is ./-o)")
-    if places[0] + 1 == len(words):
-        raise Refused("-o is the last word, and no file follows it")
-    name = words[places[0] + 1]
-    del words[places[0] : places[0] + 2]
-    return name
+    words[:] = kept
+    return names[0] if names else None

@@ -64,13 +64,16 @@ class Example(Case):
         written = subprocess.run([made], stdout=subprocess.PIPE, check=True).stdout
         self.assertEqual(written, programs.read_file(example("pm_cfg_obj.obj")))
 
-    def test_the_options_in_both_orders_and_no_others(self):
+    def test_the_object_goes_to_standard_output_or_to_a_file(self):
         file, made = self.file("small.c", array(SMALL)), self.file("made.obj", b"")
         self.assertEqual(self.written("from-c", "-o", made, file), b"")
         self.assertEqual(programs.read_file(made), objects.to_bytes(SMALL))
-        for words in ([], [file], [file, made], [file, "-o"], [file, made, "-o"], [file, "-o", made, file]):
-            self.assertEqual(self.refused("from-c", *words), "pmu: usage: ./pmu from-c FILE.c -o FILE.obj")
-        self.assertIn("No such file", self.refused("from-c", file + ".no", "-o", made))
+        self.assertEqual(self.written("from-c", file), objects.to_bytes(SMALL))
+        for words in ([], [file, made], [file, "-o", made, file]):
+            self.assertEqual(self.refused("from-c", *words), "pmu: usage: ./pmu from-c FILE.c [-o FILE.obj]")
+        for words in ([file, "-o"], [file, made, "-o"]):
+            self.assertIn("-o is the last word", self.refused("from-c", *words))
+        self.assertEqual(view("from-c", file + ".no", "-o", made)[:2], (4, b""))
         message = b"/no/folder/made.obj can't be written: No such file or directory\n"
         self.assertEqual(view("from-c", file, "-o", "/no/folder/made.obj"), (5, b"", message))
 
