@@ -5,17 +5,6 @@
 
 import names
 
-# Functions of PSCI (Arm DEN0022) that an `smc` takes: the forms of 32 and of 64 bits.
-PSCI = {
-    "CPU_OFF": 0x84000002,
-    "CPU_ON": 0x84000003,
-    "CPU_ON_64": 0xC4000003,
-    "AFFINITY_INFO": 0x84000004,
-    "AFFINITY_INFO_64": 0xC4000004,
-    "SYSTEM_OFF": 0x84000008,
-    "SYSTEM_RESET": 0x84000009,
-}
-
 HEAD = """\
 /* The constants of the interface, for programs that use pmu.h: what messages and answers are made of. Numbers of calls,
  * callbacks, statuses, nodes, published reset lines and arguments follow Xilinx UG1200 and UG1137, power calls Arm
@@ -39,8 +28,9 @@ def _group(comment: str, prefix: str, table: dict[int, str]) -> str:
 
 def _power_calls() -> str:
     """The functions of PSCI, which need not fit an enumeration."""
-    width = max(map(len, PSCI))
-    rows = [f"#define PMU_PSCI_{name:{width}} UINT32_C({number:#010X})".replace("0X", "0x") for name, number in PSCI.items()]
+    functions = names.WORDS["function"]
+    width = max(map(len, functions.values()))
+    rows = [f"#define PMU_PSCI_{name:{width}} UINT32_C({number:#010X})".replace("0X", "0x") for number, name in functions.items()]
     return "\n/* Functions of PSCI: the second argument of a power call, the word behind `smc P` in a script. */\n" + "\n".join(rows) + "\n"
 
 

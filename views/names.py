@@ -252,6 +252,15 @@ WORDS = {
     "slave flags": {1: "SHAREABLE"},
     "use flags": {2: "IN_USE"},
     "status": STATUSES,
+    "function": {
+        0x84000002: "CPU_OFF",
+        0x84000003: "CPU_ON",
+        0xC4000003: "CPU_ON_64",
+        0x84000004: "AFFINITY_INFO",
+        0xC4000004: "AFFINITY_INFO_64",
+        0x84000008: "SYSTEM_OFF",
+        0x84000009: "SYSTEM_RESET",
+    },
 }
 
 # Kinds of words that are sets of bits; a set may be written `ACCESS|CONTEXT`.
@@ -290,10 +299,12 @@ PREFIXES = {
     "reset action": ("PM_RESET_ACTION_", "XILPM_RESET_ACTION_", "RESET_ACTION_"),
     "shutdown type": ("PMF_SHUTDOWN_TYPE_", "ZYNQMP_PM_SHUTDOWN_TYPE_"),
     "shutdown subtype": ("PMF_SHUTDOWN_SUBTYPE_", "ZYNQMP_PM_SHUTDOWN_SUBTYPE_"),
+    "function": ("PSCI_",),
 }
 
 # Other names for the same, as Linux or TF-A have them.
 ALIASES = {
+    "function": {f"{name}_AARCH{bits}": name + "_64" * (bits == 64) for name in ("CPU_ON", "AFFINITY_INFO") for bits in (32, 64)},
     "node": {
         **{f"OCM_{k}": f"OCM_BANK_{k}" for k in range(4)},
         **{f"R5_{core}_{bank}TCM": f"TCM_{core}_{bank}" for core in range(2) for bank in "AB"},
@@ -432,6 +443,11 @@ def number_of(kind, name):
     return None
 
 
+def written(kind, number):
+    """A number as it is written beside its name: that of a function of PSCI in hexadecimal."""
+    return f"{number:#x}" if kind == "function" else str(number)
+
+
 def lines():
     """Each name with its kind and its number, and what else is known of it: a line each."""
     for node in NODES.values():
@@ -446,7 +462,7 @@ def lines():
         yield f"clock {number} {clock_name(number)}: " + (", ".join(map(clock_name, clock.parents)) or "a root")
     for kind, table in WORDS.items():
         for number, name in table.items():
-            yield f"{kind} {number} {name}"
+            yield f"{kind} {written(kind, number)} {name}"
 
 
 def markdown():
@@ -455,7 +471,7 @@ def markdown():
     others = [number for number in CLOCKS if not is_root(number)]
     fed = ", ".join(f"{number} {clock_name(number)} ({', '.join(map(clock_name, CLOCKS[number].parents))})" for number in others)
     clocks = f"The roots are {roots}; the other clocks, with their parents by index, {fed}."
-    words = [f"- {kind}: " + ", ".join(f"{number} {name}" for number, name in table.items()) for kind, table in WORDS.items()]
+    words = [f"- {kind}: " + ", ".join(f"{written(kind, number)} {name}" for number, name in table.items()) for kind, table in WORDS.items()]
     return "\n".join([_wrapped(clocks), "", *map(_wrapped, words)]) + "\n"
 
 

@@ -26,6 +26,8 @@ def word_in_names(kind, word, masters):
         return mask_name(value, masters) or word
     if kind == "own mask":
         return ipi_mask_name(value) or word
+    if kind == "target":
+        return names.node_name(to_numbers.TARGETS[value]) if value < len(to_numbers.TARGETS) else word
     if kind == "call":
         return names.CALLS[value].name if value in names.CALLS else word
     name = names.word_name(kind, value)

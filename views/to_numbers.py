@@ -30,6 +30,10 @@ SAID = {
 words_of, value_of, MESSAGES = lines.placed_words, lines.number_of, grammar.MESSAGES
 
 SETS = ("mask", *names.SETS)
+
+# The processors that are targets of power calls, by their places; and what the arguments of functions mean.
+TARGETS = names.MASTERS[1]
+FUNCTIONS = {"CPU_ON": ("target", "address", "argument"), "AFFINITY_INFO": ("target", "level", "argument")}
 NAME = re.compile(r"[A-Za-z_][A-Za-z0-9_]*(\|[A-Za-z0-9_]+)*|\d\w*(\|\w+)+")
 
 
@@ -43,6 +47,9 @@ def number_of(kind, name, masters):
         return masters.get(names.number_of("node", name))
     if kind == "own mask":
         return names.IPI_MASKS.get(names.number_of("node", name))
+    if kind == "target":
+        number = names.number_of("node", name)
+        return TARGETS.index(number) if number in TARGETS else None
     return names.number_of(kind, name)
 
 
@@ -66,6 +73,8 @@ def unknown(kind, word):
     """What is wrong with a name that its kind doesn't have."""
     if kind == "mask":
         return f"no master line of this text has the mask of {word}"
+    if kind == "target":
+        return f"no processor of {names.node_name(1)} is named {word}"
     if kind in ("node", "line", "call", "clock", "own mask") or kind in names.WORDS:
         return f"no {SAID.get(kind, kind)} is named {word}"
     return f"the {kind} is a number, not {word}" if kind else f"a number is wanted, not {word}"
@@ -80,10 +89,29 @@ def kinds_of_message(words):
     return ("node", "call", *(call.arguments or () if call else ()))
 
 
+def kinds_of_power_call(words):
+    """Of a line `smc P FUNCTION ..`: what its words mean, as far as its function says."""
+    number = names.number_of("function", words[2]) if len(words) > 2 else None
+    if number is None and len(words) > 2:
+        number = lines.number_of(words[2])
+    return ("node", "function", *FUNCTIONS.get(names.WORDS["function"].get(number, "").replace("_64", ""), ("argument",) * 3))
+
+
+def too_wide(words):
+    """What is wrong with an argument of a function that is written by its name and takes 32 bits, or None."""
+    number = names.number_of("function", words[2]) if words[0] == "smc" and len(words) > 2 else None
+    if number is None or number >= 0xC0000000:
+        return None
+    wide = [word for word in words[3:] if (lines.number_of(word) or 0) >= 1 << 32]
+    return f"the arguments of {words[2]} have 32 bits, and {wide[0]} has more (CPU_ON_64 and AFFINITY_INFO_64 have 64)" if wide else None
+
+
 def kinds_of(words):
     """What the words after the first one of a line mean, or None of a line that has no such first word."""
     if words[0] in grammar.MESSAGES:
         return kinds_of_message(words)
+    if words[0] == "smc":
+        return kinds_of_power_call(words)
     form = grammar.SCRIPT.get(words[0], grammar.TEXT.get(words[0]))
     return form.kinds if form and form.kinds else None
 
@@ -94,6 +122,8 @@ def line_in_numbers(line, masters):
     kinds = kinds_of([word for _, word in found]) if found else None
     if kinds is None:
         return line
+    if fault := too_wide([word for _, word in found]):
+        raise Unknown(fault)
     made, end = "", 0
     for place, (start, word) in enumerate(found[1:]):
         kind = kinds[place] if place < len(kinds) else ""

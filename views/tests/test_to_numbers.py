@@ -5,7 +5,7 @@ import unittest
 
 import to_names
 import to_numbers
-from common import Case, example, examples, program
+from common import Case, example, examples, program, view
 
 
 def read(path):
@@ -98,10 +98,32 @@ class Numbers(Case):
         ]:
             self.assertTrue(self.refused("--numbers", self.file("given", given)).endswith(fault), fault)
 
+    def test_power_calls(self):
+        given = self.file("given", (
+            "smc APU_0 CPU_ON APU_1 0x1000\nsmc APU_0 PSCI_CPU_ON_AARCH64 APU_3 0x100001000\nsmc APU_1 AFFINITY_INFO APU_0 0\n"
+            "smc APU_1 CPU_OFF\nsmc APU_0 SYSTEM_RESET\nsmc APU_0 0xC4000003 APU_2 4096\nsmc APU_0 CPU_ON 1 4096\n"
+        ))  # fmt: skip
+        self.assertEqual(self.text("--numbers", given).splitlines(), [
+            "smc 2 2214592515 1 0x1000", "smc 2 3288334339 3 0x100001000", "smc 3 2214592516 0 0", "smc 3 2214592514",
+            "smc 2 2214592521", "smc 2 0xC4000003 2 4096", "smc 2 2214592515 1 4096",
+        ])  # fmt: skip
+        import to_names
+
+        self.assertEqual(to_names.line_in_names("smc 2 3288334339 3 4096", {}), "smc APU_0 CPU_ON_64 APU_3 4096")
+        self.assertEqual(to_names.line_in_names("smc 2 0x84000004 1 0", {}), "smc APU_0 AFFINITY_INFO APU_1 0")
+        for line, why in [
+            ("smc APU_0 CPU_ON APU_1 0x100001000", "the arguments of CPU_ON have 32 bits, and 0x100001000 has more"),
+            ("smc APU_0 CPU_ON RPU_0 0", "no processor of APU is named RPU_0"),
+            ("smc APU_0 CPU_SUSPEND 0", "no function is named CPU_SUSPEND"),
+        ]:
+            self.assertIn(why, self.refused("--numbers", self.file("given", line)))
+
     def test_bad_use(self):
         self.assertIn("--numbers takes one FILE", self.refused("--numbers"))
         self.assertIn("--numbers takes one FILE", self.refused("--numbers", example("a"), example("b")))
-        self.assertIn("No such file", self.refused("--numbers", example("no.script")))
+        status, output, errors = view("--numbers", example("no.script"))
+        self.assertEqual((status, output), (4, b""))
+        self.assertIn(b"no file ", errors)
         self.assertIn("Is a directory", self.refused("--numbers", self._room.name))
 
 
