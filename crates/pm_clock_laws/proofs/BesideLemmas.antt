@@ -18,6 +18,8 @@ use Rattle.pm_ipi.specs.declared.calls.Call.TheVariants.{Unknown}
 use Rattle.pm_object.specs.declared.object.MasterRec.{MasterRec}
 use Rattle.pm_object.specs.declared.object.Object.{Object}
 use Rattle.pm_topology.specs.declared.topology.Topology.{Topology}
+use Rattle.pm_topology.specs.declared.places.Kind.{Kind}
+use Rattle.pm_topology.specs.declared.places.Kind.TheVariants.{Proc, Slave, Power, Unknown}
 use Rattle.pm_topology.specs.Places.{kind_of, slave_place}
 use Rattle.pm_topology.specs.WellFormed.{IsWellFormed}
 use Rattle.pm_perms.specs.Permits.{master_record, may_use, may_use_by, slave_record}
@@ -36,7 +38,7 @@ use Rattle.pm_run.specs.Run.{book_after, core_of, cores_of}
 use Rattle.pm_laws.specs.Agree.{Agree, IsAmong}
 use Rattle.pm_laws.specs.Answers.{message_beyond, names_beyond}
 use Rattle.pm_laws.specs.Beside.{Beside, IsOwn, none, both as in_both, left, rest}
-use Rattle.pm_laws.specs.Border.{AreObjects, Border, IsBeyond, none_within}
+use Rattle.pm_laws.specs.Border.{AreObjects, Border, IsBeyond, none_within, unit_beyond}
 use Rattle.pm_laws.specs.Hidden.{is_within}
 use Rattle.pm_laws.specs.Left.{border_in}
 use Rattle.pm_laws.specs.ReachBorder.{border_of, place_of}
@@ -507,12 +509,26 @@ module _ (laws : Below) (m : NodeId) where
       by : (c : ℕ) → IsClockBeyond a.fixed (border_in a m) c → (found : Option NodeId) → slice_get roots c ≡ found
           → option_map (is_on a) found ≡ option_map (is_on b) found
       by c beyond None is = refl
-      by c beyond (Some node) is =
-          ap (λ (on : Bool). Some on) (root_alike a b object formed agree node (at (is_beyond a.fixed.object a.fixed.topology (border_in a m) (Node node)) refl))
+      by c beyond (Some node) is = ap (λ (on : Bool). Some on) (root_same (kind_of a.fixed.topology node) refl)
         where
-          at : (out : Bool) → is_beyond a.fixed.object a.fixed.topology (border_in a m) (Node node) ≡ out → out ≡ true
-          at true out = refl
-          at false out = absurd (beyond (root_within c node is out))
+          -- a root that comes of no slave is off in both books
+          off : (kind : Kind) → kind_of a.fixed.topology node ≡ kind → is_slave kind ≡ false → is_on a node ≡ is_on b node
+          off kind at no_slave =
+              ap (λ (k : Kind). is_slave k && not (value (Node node) a == 0)) at ∙ ap (λ slave. slave && not (value (Node node) a == 0)) no_slave
+              ∙ sym (ap (λ (fixed : Fixed). is_slave (kind_of fixed.topology node) && not (value (Node node) b == 0)) (sym agree.fixed)
+              ∙ ap (λ (k : Kind). is_slave k && not (value (Node node) b == 0)) at ∙ ap (λ slave. slave && not (value (Node node) b == 0)) no_slave)
+
+          root_same : (kind : Kind) → kind_of a.fixed.topology node ≡ kind → is_on a node ≡ is_on b node
+          root_same (Proc p) at = off (Proc p) at refl
+          root_same (Power w) at = off (Power w) at refl
+          root_same Unknown at = off Unknown at refl
+          root_same (Slave s) at = by_border ((border_in a m).slave s) refl
+            where
+              by_border : (out : Bool) → (border_in a m).slave s ≡ out → is_on a node ≡ is_on b node
+              by_border true out =
+                  root_alike a b object formed agree node
+                  (ap (unit_beyond a.fixed.object a.fixed.topology (border_in a m)) at ∙ out)
+              by_border false out = absurd (beyond (root_within c s node is at out))
 
   -- ---- what a call beyond is answered
 
