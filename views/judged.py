@@ -10,6 +10,7 @@ import annotate
 import lines
 import names
 import to_numbers
+from chip import Chip
 from expectations import Clause
 from program import BadUse
 
@@ -27,8 +28,8 @@ class Unread(Exception):
 class Run:
     """What the program wrote of a script: by step its lines, and the table after a step."""
 
-    def __init__(self, script: list[str], written: list[str], table_of: Callable[[int], list[str]]):
-        self.script, self.table_of, self.tables = script, table_of, {}
+    def __init__(self, chip: Chip, script: list[str], written: list[str], table_of: Callable[[int], list[str]]):
+        self.chip, self.script, self.table_of, self.tables = chip, script, table_of, {}
         self.steps: dict = {}
         for line in written:
             step, *words = line.split()
@@ -71,9 +72,9 @@ def state(word: str, known: tuple) -> int:
     return value
 
 
-def states_of(node: int) -> tuple:
+def states_of(chip: Chip, node: int) -> tuple:
     """The names of the states of a node."""
-    return tuple(names.state_name(node, value) for value in range(3)) if node in names.NODES else ()
+    return tuple(chip.kept_name(node, value) for value in range(max(2, len(chip.nodes[node].states)))) if node in chip.nodes else ()
 
 
 def statuses_of(word: str) -> Callable[[int], bool]:
@@ -104,11 +105,11 @@ def of_a_reply(reply: Optional[list[int]], wanted: tuple, numbers: list[int]) ->
     return None if met else "it is " + said_status(reply[0], reply[1:], wanted[1:])
 
 
-def word_of_answer(message: list[int], place: int, word: str) -> int:
+def word_of_answer(chip: Chip, message: list[int], place: int, word: str) -> int:
     """A word of an answer as a number: of a node's status its state and requirement may be named."""
-    if message[1] == 3 and place == 0 and message[2] in names.NODES:
+    if message[1] == 3 and place == 0 and message[2] in chip.nodes:
         modes = tuple(names.MODES[value] for value in sorted(names.MODES))
-        return state(word, modes if names.NODES[message[2]].kind == "processor" else states_of(message[2]))
+        return state(word, modes if chip.is_kind(message[2], "processor") else states_of(chip, message[2]))
     return number("capabilities" if message[1] == 3 and place == 1 else "", word)
 
 
@@ -121,7 +122,7 @@ def answer(run: Run, step: int, wanted: tuple) -> Optional[str]:
         return None if wanted[0] == "none" else f"{names.node_name(message[0])} isn't heard"
     found = [reply[1:] for reply in run.wrote(step, "reply") if reply[0] == message[0] and annotate.is_answered(message)]
     found += [call[3:] for call in run.wrote(step, "call") if call[:2] == [message[0], 31] and not annotate.is_answered(message)]
-    numbers = [word_of_answer(message, place, word) for place, word in enumerate(wanted[1:])]
+    numbers = [word_of_answer(run.chip, message, place, word) for place, word in enumerate(wanted[1:])]
     return of_a_reply(found[-1] if found else None, wanted, numbers)
 
 
@@ -161,7 +162,7 @@ def command(kind: str) -> Callable:
     def judge(run: Run, step: int, wanted: tuple) -> Optional[str]:
         of_line = kind.startswith("line")
         unit = number("line" if of_line else "node", wanted[0])
-        known = SWITCHED["line"] if of_line else states_of(unit)
+        known = SWITCHED["line"] if of_line else states_of(run.chip, unit)
         found = [words[2] for words in run.wrote(step, kind) if words[0] == unit]
         if found and (not wanted[1:] or state(wanted[1], known) in found):
             return None
@@ -206,13 +207,7 @@ def unit_of(run: Run, step: int, word: str) -> tuple:
         return run.table(step).get(("line", number("line", word.rpartition(":")[2])), (0, 0)), SWITCHED["line"]
     node = number("node", word)
     kinds = [kind for kind in ("slave", "power", "proc") if (kind, node) in run.table(step)]
-    return run.table(step).get((kinds[0], node) if kinds else None, (0, 0)), states_of(node)
-
-
-def is_processor(word: str) -> bool:
-    """Whether a word names a processor of the chip."""
-    node = names.NODES.get(names.number_of("node", word) or lines.number_of(word))
-    return node is not None and node.kind == "processor"
+    return run.table(step).get((kinds[0], node) if kinds else None, (0, 0)), states_of(run.chip, node)
 
 
 def value_in(place: int) -> Callable:
@@ -220,7 +215,7 @@ def value_in(place: int) -> Callable:
 
     def judge(run: Run, step: int, wanted: tuple) -> Optional[str]:
         numbers, known = unit_of(run, step, wanted[0])
-        if place == 0 and is_processor(wanted[0]):
+        if place == 0 and run.chip.is_kind(names.number_of("node", wanted[0]) or lines.number_of(wanted[0]), "processor"):
             raise Unread(f"{wanted[0]} is a processor, and has a mode: mode {wanted[0]} ..")
         value = numbers[place]
         return None if state(wanted[1], known) == value else f"it is {known[value] if value < len(known) else value}"

@@ -10,6 +10,7 @@ import tempfile
 from typing import NamedTuple, Optional
 from xml.sax.saxutils import quoteattr
 
+import chip as chips
 import expectations
 import faults
 import judged
@@ -77,16 +78,16 @@ def told(clause: expectations.Clause, instead: str, script: list[str]) -> str:
     return f"{clause.place}: expected {clause.text}, and {instead}: {of_line}"
 
 
-def outcome(obj: str, path: str, topology: list[str], room: str) -> Outcome:
+def outcome(obj: str, path: str, chip: chips.Chip, room: str) -> Outcome:
     """Runs a script, and judges the run."""
     name, content = faults.name_of(path), read_file(path)
     script = steps.script_lines(to_numbers.in_numbers(content, path))
-    clauses = expected_of(content, script, path)
+    clauses, topology = expected_of(content, script, path), chip.words()
     try:
         written = replayed(obj, script, path, topology, room)
     except Failed as failed:
         return Outcome(name, [], failed)
-    run = judged.Run(script, written, lambda step: replayed(obj, script[:step], path, topology, room))
+    run = judged.Run(chip, script, written, lambda step: replayed(obj, script[:step], path, topology, room))
     run.tables[len(script)] = judged.table_of(written)
     judgements = [(clause, judged.difference(run, clause)) for clause in clauses]
     return Outcome(name, [(clause, instead and told(clause, instead, script)) for clause, instead in judgements])
@@ -159,11 +160,11 @@ def main(words: list[str]) -> int:
     if len(others) < 2:
         raise BadUse("test takes an OBJ and one SCRIPT or more, as in ./pmu --help")
     obj, *scripts = others
-    topology = [given["--topology"]] if "--topology" in given else []
+    chip = chips.read(given.get("--topology"))
     target = Target(given["--junit"]) if "--junit" in given else None
     try:
         with tempfile.TemporaryDirectory() as room:
-            outcomes = [outcome(obj, path, topology, room) for path in scripts]
+            outcomes = [outcome(obj, path, chip, room) for path in scripts]
         if target:
             target.put(as_junit(outcomes, faults.name_of(obj)).encode("utf-8", "replace"))
     finally:

@@ -4,7 +4,7 @@ import os
 import tempfile
 import xml.etree.ElementTree as ElementTree
 
-from common import Case, example, view
+from common import TOP, Case, example, view
 
 LABORATORY = example("laboratory.obj")
 SLEEP = """\
@@ -38,10 +38,11 @@ class Judged(Case):
 
     def fault(self, path):
         """What is wrong with the expectations of a script."""
+        import chip
         import testing
 
         with tempfile.TemporaryDirectory() as room, self.assertRaises(Exception) as raised:
-            testing.outcome(LABORATORY, path, [], room)
+            testing.outcome(LABORATORY, path, chip.read(), room)
         self.assertEqual(raised.exception.status, 125)
         return str(raised.exception)
 
@@ -157,7 +158,7 @@ class Judged(Case):
     def test_another_topology(self):
         path = self.script("ipi 1 17 1034 1 # expect answer INVALID_NODE\n")
         self.assertEqual(view("test", example("pm_cfg_obj.obj"), path)[0], 0)
-        topology = next(it for it in (example("zynqmp-resets.topology"), example("../topologies/zynqmp-resets.topology")) if os.path.exists(it))
+        topology = os.path.join(TOP, "topologies", "zynqmp-resets.topology")
         status, output, _ = view("test", "--topology", topology, example("pm_cfg_obj.obj"), path)
         self.assertEqual(status, 104, output)
 
