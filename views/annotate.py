@@ -311,7 +311,7 @@ def beside(board, node, lines):
 
 def replay(room, obj, script, *topology):
     chip = chip_of(obj, topology)
-    told = steps.replay_of(obj, chip, to_numbers.in_numbers(read_file(script), script), room, script)
+    told = steps.replay_of(steps.Run(obj, chip, room), to_numbers.in_numbers(read_file(script), script), script)
     show(told.lines, meanings_of_replay(chip, told))
 
 

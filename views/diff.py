@@ -1,8 +1,10 @@
 """`diff OBJ SCRIPT NODE [TOPO]`: a script with the messages of the master NODE and without them, side by side.
 
-In the second run each message of NODE, and each power call if NODE is the master that they are sent as, is an empty
-line, so that lines keep their numbers. By step it shows what differs: units with the values from and to, starts, answers, callbacks and late replies. What is NODE's own comes after
-the rest: its processors, what no other master may use, and what it is told, but for the answers to its messages.
+In the second run each message of NODE, and each power call if NODE is the master that they are sent as, is an empty line, so
+that lines keep their numbers. By step it shows what differs: units with the values from and to, starts, answers, callbacks and
+late replies. A unit has its values in the book; if the device didn't go through the same, as when it is broken or a line is
+pulsed, it has a row of its own with what it took and refused. What is NODE's own comes after the rest: its processors, what no
+other master may use, and what it is told, but for the answers to its messages.
 """
 
 import re
@@ -11,6 +13,7 @@ from typing import NamedTuple
 
 import annotate
 import chip as chips
+import moves
 import names
 import objects
 import permits
@@ -34,7 +37,7 @@ REMARKS = ("DENIED", "REFUSED", "NOT HEARD")
 class Row(NamedTuple):
     """What differs in a step: the two texts, empty where there is nothing."""
 
-    subject: tuple  # what it is about: a unit, or an answer or a callback with its master
+    subject: tuple  # what it is about: a unit, a unit of the device, or an answer or a callback with its master
     with_it: str
     without: str
     remark: str
@@ -62,27 +65,7 @@ def without_messages(content, node):
     return "\n".join(lines).encode("latin-1"), silenced
 
 
-# One run: what is in each of its steps.
-
-
-def value_name(chip, unit, value):
-    if unit.kind == "line":
-        return "asserted" if value else "released"
-    if unit.kind == "clock":
-        return "runs" if value else "stopped"
-    return chip.value_name(unit.number, value)
-
-
-def moves_of(run):
-    """Of each step: what each unit that moves goes through, as values from the first to the last."""
-    now, moves = {}, []
-    for changes in run.changes:
-        moved = {}
-        for unit, value in changes:
-            moved.setdefault(unit, [now.get(unit, 0)]).append(value)
-            now[unit] = value
-        moves.append(moved)
-    return moves
+# What is said in one run.
 
 
 class Word(NamedTuple):
@@ -107,10 +90,10 @@ def word_of(kind, words, meaning):
     return Word(" ".join([kind, *map(str, words)]), f"{status} {said}" if kind == "reply" else said, status)
 
 
-def words_of(chip, run, node):
-    """Of each step: the starts, answers and callbacks by what they are about. What the master is told by a message of its
+def words_of(chip, run, node, count):
+    """Of each line: the starts, answers and callbacks by what they are about. What the master is told by a message of its
     own, which the other run lacks, is left out."""
-    told, found = run.replay, [{} for _ in run.changes]
+    told, found = run.replay, [{} for _ in range(count + 1)]
     senders = [(annotate.message_of(line) or [None])[0] for line in told.script]
     for line, meaning in zip(told.cores, annotate.meanings_of_cores(chip, told.cores, told.script)):
         step, kind, *rest = line.split()
@@ -144,12 +127,17 @@ def remark_of(words, others):
     return refused if any(status > 0 for status in statuses) else unheard if words else ""
 
 
-def rows_of_units(chip, moves, others):
-    """What differs in the values of units."""
-    for unit in {**moves, **others}:
-        texts = [" -> ".join(value_name(chip, unit, value) for value in run.get(unit, [])) for run in (moves, others)]
+def rows_of_units(chip, ours, theirs):
+    """What differs in the values of units: in the book; and at the device, if it didn't follow the book."""
+    for unit in {**ours, **theirs}:
+        pair = [run.get(unit) for run in (ours, theirs)]
+        texts = [each.book_text(chip, unit) if each else "" for each in pair]
         if texts[0] != texts[1]:
             yield Row((unit.kind, unit.number), *texts, "")
+        if any(each and not each.is_followed(chip, unit) for each in pair):
+            texts = [each.device_text(chip, unit) if each else "" for each in pair]
+            if texts[0] != texts[1]:
+                yield Row(("device", unit), *texts, "")
 
 
 def rows_of_words(words, others):
@@ -160,12 +148,12 @@ def rows_of_words(words, others):
             yield Row(about, joined(ours, theirs), joined(theirs, ours), remark_of(ours, theirs))
 
 
-def rows_of_steps(chip, runs, node):
-    """Of each step, what differs."""
-    moves = [moves_of(run) for run in runs]
-    words = [words_of(chip, run, node) for run in runs]
-    for step in range(len(runs[0].changes)):
-        yield [*rows_of_units(chip, *(run[step] for run in moves)), *rows_of_words(*(run[step] for run in words))]
+def rows_of_steps(chip, runs, node, count):
+    """Of each line, what differs."""
+    moved = [moves.of_lines(run, count) for run in runs]
+    words = [words_of(chip, run, node, count) for run in runs]
+    for line in range(count + 1):
+        yield [*rows_of_units(chip, *(run[line] for run in moved)), *rows_of_words(*(run[line] for run in words))]
 
 
 # What belongs to the master.
@@ -186,6 +174,8 @@ def is_own(board, node, subject):
     kind, number = subject
     if kind in ("answer", "call"):
         return number == node
+    if kind == "device":
+        kind, number = number
     if kind == "clock":
         number = names.CLOCKS[number].node
     if kind == "line":
@@ -199,6 +189,8 @@ def is_own(board, node, subject):
 def title(chip, subject):
     """What a row is about, with the words that a comparison has for units."""
     kind, number = subject
+    if kind == "device":
+        return f"device {title(chip, number)}"
     if kind == "line":
         return f"line {names.line_name(number)}"
     if kind == "clock":
@@ -265,7 +257,9 @@ def main(words):
         node = to_numbers.value_of(judged[3])
         first = re.sub(rb"\r(?=\n|\Z)", b"", content)
         second, silenced = without_messages(first, node)
-        runs = [steps.steps_of(path, board.chip, each, room) for each in (first, second)]
-    shown = text(board, node, list(rows_of_steps(board.chip, runs, node)), steps.script_lines(first), silenced)
+        runs = [steps.steps_of(steps.Run(path, board.chip, room), each) for each in (first, second)]
+    script = steps.script_lines(first)
+    rows = list(rows_of_steps(board.chip, runs, node, len(script)))
+    shown = text(board, node, rows, script, silenced)
     print("".join(line + "\n" for line in shown), end="")
     return 0

@@ -7,7 +7,7 @@ Masters beyond the reach are dotted, and what else is beyond isn't drawn.
 """
 
 import sys
-from typing import Callable, Iterator, NamedTuple, Sequence
+from typing import Callable, Iterator, NamedTuple, Optional, Sequence
 
 import annotate
 import chip as chips
@@ -88,7 +88,7 @@ def graph_of(board: Board, members: list[permits.Member], has_all: bool) -> Grap
     return Graph(board, members, masters, units)
 
 
-def groups_of(graph: Graph, kind: str, domain: int | None) -> dict[tuple[Arrow, ...], list[int]]:
+def groups_of(graph: Graph, kind: str, domain: Optional[int]) -> dict[tuple[Arrow, ...], list[int]]:
     """The members of a kind directly below a power node by what can change them, in the order of the reach."""
     groups: dict[tuple[Arrow, ...], list[int]] = {}
     for (member, number), arrows in graph.units.items():
@@ -97,7 +97,7 @@ def groups_of(graph: Graph, kind: str, domain: int | None) -> dict[tuple[Arrow, 
     return groups
 
 
-def box_name(kind: str, domain: int | None, arrows: Sequence[Arrow]) -> str:
+def box_name(kind: str, domain: Optional[int], arrows: Sequence[Arrow]) -> str:
     """The name of a box: its kind, its domain, and the masters and reasons of its arrows."""
     parts = [f"{arrow.start}_{arrow.why.replace(', ', '_')}" for arrow in arrows]
     return "_".join([kind, *([] if domain is None else [str(domain)]), *parts])
@@ -131,7 +131,7 @@ def processors_of(graph: Graph, domain: int) -> dict[int, int]:
     return found
 
 
-def powers(chip: Chip, parent: int | None) -> list[int]:
+def powers(chip: Chip, parent: Optional[int]) -> list[int]:
     """The power nodes directly below one, or those without a parent."""
     return [number for number in sorted(chip.nodes) if chip.is_kind(number, "power") and chip.nodes[number].parent == parent]
 

@@ -26,6 +26,7 @@ VIEWS = {
     "--names": "annotate",
     "--numbers": "to_numbers",
     "--vcd": "waveform",
+    "--svg": "picture",
     "--dot": "graph",
     "from-c": "from_c",
     "lint": "lint",

@@ -1,16 +1,26 @@
-"""`python3 views/picture.py DUMP`: the waveform of a value change dump as `--vcd` writes it, as a picture (SVG).
+"""`--svg replay OBJ SCRIPT [TOPO]`: the waveform of a replay as a picture (SVG).
 
-It shows the signals that change after the load: a signal of one bit as high or low, one of two as boxes with the name
-of the state or mode. Above each line of the script stands what it says.
+It shows what changes after the load, by the dump that `--vcd` writes: a signal of two values as high or low, one of more as boxes
+with the name of the state or mode. If the device didn't follow the book, or a line was pulsed, the unit has a second row with
+what the device has, and a cross at each command that it refused. Above each line of the script stands what it says.
 """
 
+import bisect
 import sys
+import tempfile
 from html import escape
-from typing import NamedTuple
+from typing import Iterator, NamedTuple, Optional, Sequence
 
-import names
+import chip as chips
+import objects
+import steps
+import to_numbers
+import waveform
+from program import BadUse, read_file
 
-LEFT, STEP, ROW = 110, 52, 26  # pixels: the names, a script line, a signal
+USAGE = "--svg is followed by replay OBJ SCRIPT [TOPO]"
+
+LEFT, STEP, ROW = 140, 52, 26  # pixels: the names, a script line, a signal
 HIGH, LOW = 5, 20  # of a signal, from the top of its row
 RISE, RUN = 5.8, 4.9  # how far a character of a slanted text goes up, and to the right, in the usual wide fonts
 
@@ -21,147 +31,240 @@ text { font-family: sans-serif; font-size: 11px; }
 .grid { stroke: #ddd; }
 .wave { stroke: #06c; fill: none; stroke-width: 1.5; }
 .box { stroke: #06c; fill: #eef4ff; stroke-width: 1.5; }
-.zero { stroke: #06c; fill: white; stroke-width: 1.5; }"""
+.zero { stroke: #06c; fill: white; stroke-width: 1.5; }
+.device { stroke: #a50; }
+.refused { stroke: #c00; stroke-width: 2; }"""
+
+# A value of a signal: None is one that the device refused.
+Value = Optional[int]
+
+# The words for a processor that runs, in the book and at the device.
+RUNNING = ("active", "suspending", "on")
 
 
 class Signal(NamedTuple):
-    scope: tuple
+    """A signal of a dump."""
+
+    scope: tuple[str, ...]
     name: str
     width: int  # in bits; 0 for a text
-    changes: list  # pairs of a time and a value
+    changes: list  # pairs of a time and a value, or a text
+
+    def is_of_device(self) -> bool:
+        """Whether this is a unit as the device has it."""
+        return self.scope[:1] == ("device",)
+
+    def label(self) -> str:
+        """The name of the signal as it is drawn."""
+        name = self.name.replace("reset_", "reset ").replace("clock_", "clock ").replace("RESET_", "reset ")
+        return f"device {name}" if self.is_of_device() else name
 
 
 class Dump(NamedTuple):
-    signals: list
+    """The signals of a dump."""
+
+    signals: list[Signal]
+    words: dict[tuple[tuple[str, ...], str], Sequence[str]]  # of each signal, by its scope and name: what its values are called
     end: int  # the last time
 
-    def named(self, name, scope=None):
-        """The signal of this name, in this scope where one is given."""
-        found = [signal for signal in self.signals if signal.name == name and scope in (None, signal.scope)]
+    def named(self, name: str, scope: Optional[tuple[str, ...]] = None) -> Signal:
+        """The signal of this name, in this scope if one is given, else outside of the device."""
+        found = [it for it in self.signals if it.name == name and (scope == it.scope or scope is None and not it.is_of_device())]
         if len(found) != 1:
             raise ValueError(f"{len(found)} signals {name}")
         return found[0]
 
 
-def unescaped(text):
+class Row(NamedTuple):
+    """A signal as it is drawn."""
+
+    label: str
+    words: Sequence[str]
+    is_of_device: bool
+    lines: dict[int, list[Value]]  # by line of the script the values that it goes through
+
+    def spans(self, end: int) -> list[tuple[int, int, int]]:
+        """From which line to which the signal has each value at their ends."""
+        ends = {line: [value for value in values if value is not None][-1] for line, values in self.lines.items()}
+        changes = [(line, value) for line, value in sorted(ends.items())]
+        kept = [change for place, change in enumerate(changes) if place == 0 or changes[place - 1][1] != change[1]]
+        return [(begin, until, value) for (begin, value), (until, _) in zip(kept, kept[1:] + [(end, 0)])]
+
+    def changes(self) -> bool:
+        """Whether the signal changes after the load."""
+        return len(self.spans(0)) > 1
+
+    def pulses(self) -> list[int]:
+        """The lines in which the signal is high for a moment."""
+        return [line for line, values in self.lines.items() if line and len(values) > 1 and 1 in values[:-1] and values[-1] == 0]
+
+    def refused(self) -> list[int]:
+        """The lines in which the device refused a command."""
+        return [line for line, values in self.lines.items() if None in values]
+
+
+# Reading a dump.
+
+
+def unescaped(text: str) -> str:
+    """A text of a dump."""
     return text.encode("ascii").decode("unicode_escape")
 
 
-def declared(words, scope):
-    """The signal of a declaration `$var TYPE WIDTH CODE NAME $end`."""
-    width = 0 if words[1] == "string" else int(words[2])
-    return words[3], Signal(tuple(scope), words[4], width, [])
+def value_of(text: str) -> Value:
+    """A value in binary, or None if it was refused."""
+    return None if "x" in text else int(text, 2)
 
 
-def read(text):
+def change_of(line: str) -> Optional[tuple[str, object]]:
+    """The code and the new value of a line that changes a signal, or None."""
+    if line[0] in "01x":
+        return line[1:], value_of(line[0])
+    if line[0] in "bs":
+        value, code = line.split()
+        return code, value_of(value[1:]) if line[0] == "b" else unescaped(value[1:]).strip()
+    return None
+
+
+def read(text: str) -> Dump:
     """The signals of a dump, each with its changes."""
-    lines, scope, signals, time = text.splitlines(), [], {}, 0
-    for line in lines:
-        words = line.split()
-        if words[0] == "$scope":
-            scope.append(words[2])
-        elif words[0] == "$upscope":
+    scope: list[str] = []
+    signals: dict[str, Signal] = {}
+    words: dict[str, Sequence[str]] = {}
+    time = 0
+    for line in text.splitlines():
+        parts = line.split()
+        change = None if line.startswith("$") else change_of(line)
+        if line.startswith("$comment values"):
+            words.update({code: parts[2 : parts.index(":")] for code in parts[parts.index(":") + 1 : -1]})
+        elif parts[0] == "$scope":
+            scope.append(parts[2])
+        elif parts[0] == "$upscope":
             scope.pop()
-        elif words[0] == "$var":
-            code, signal = declared(words, scope)
-            signals[code] = signal
+        elif parts[0] == "$var":
+            width = 0 if parts[1] == "string" else int(parts[2])
+            signals[parts[3]] = Signal(tuple(scope), parts[4], width, [])
         elif line.startswith("#"):
             time = int(line[1:])
-        elif line[0] in "01":
-            signals[line[1:]].changes.append((time, int(line[0])))
-        elif line[0] == "b":
-            signals[words[1]].changes.append((time, int(words[0][1:], 2)))
-        elif line[0] == "s":
-            signals[words[1]].changes.append((time, unescaped(words[0][1:]).strip()))
-    return Dump(list(signals.values()), time)
+        elif change:
+            signals[change[0]].changes.append((time, change[1]))
+    named = {(signal.scope, signal.name): words.get(code, ()) for code, signal in signals.items()}
+    return Dump(list(signals.values()), named, time)
 
 
-def is_shown(signal):
-    return signal.width > 0 and len(signal.changes) > 1
+# What is drawn.
 
 
-def state(signal, value):
-    """The value of a signal in words."""
-    number = names.number_of("node", signal.name)
-    is_processor = names.NODES[number].kind == "processor" and signal.scope[0] != "reset_lines"
-    return names.MODES[value] if is_processor else names.state_name(number, value)
+def script_of(dump: Dump) -> list[tuple[int, str]]:
+    """When each line of the script begins, and what it says."""
+    return [(time, str(text)) for time, text in dump.named("line", ("script",)).changes]
 
 
-def column(time):
-    return LEFT + STEP * time
+def row_of(dump: Dump, signal: Signal, starts: list[int]) -> Row:
+    """A signal with its values by the lines of the script."""
+    lines: dict[int, list[Value]] = {}
+    for time, value in signal.changes:
+        lines.setdefault(bisect.bisect(starts, time) - 1, []).append(value)
+    return Row(signal.label(), dump.words[signal.scope, signal.name], signal.is_of_device(), lines)
 
 
-def spans(signal, end):
-    """From when to when a signal has each value; what it has for no time isn't in it."""
-    changes = signal.changes + [(end, None)]
-    return [(begin, until, value) for (begin, value), (until, _) in zip(changes, changes[1:]) if begin < until]
+def is_followed(book: Row, device: Row, end: int) -> bool:
+    """Whether the device has at the end of each line what the book has, and neither refuses nor is pulsed."""
+    pair = []
+    for row in (book, device):
+        said = [(row.words[value] in RUNNING if "active" in book.words else row.words[value]) for _, _, value in row.spans(end)]
+        begins = [begin for begin, _, _ in row.spans(end)]
+        pair.append([said[bisect.bisect(begins, line) - 1] for line in range(end)])
+    return pair[0] == pair[1] and not device.refused() and not device.pulses()
 
 
-def boxes(signal, end, top):
-    """A signal of some bits: a box for each value, a flat one for 0."""
-    for begin, until, value in spans(signal, end):
+def rows_of(dump: Dump) -> list[Row]:
+    """The rows: what changes after the load, each with the device below it if that didn't follow."""
+    starts = [time for time, _ in script_of(dump)]
+    found = []
+    for signal in dump.signals:
+        if signal.width and not signal.is_of_device():
+            row = row_of(dump, signal, starts)
+            found += [row] if row.changes() else []
+            others = [it for it in dump.signals if (it.scope, it.name) == (("device", *signal.scope), signal.name)]
+            below = [row_of(dump, it, starts) for it in others]
+            found += [it for it in below if not is_followed(row, it, len(starts))]
+    return found
+
+
+def column(line: int) -> int:
+    """Where a line of the script begins."""
+    return LEFT + STEP * line
+
+
+def boxes(row: Row, end: int, top: int) -> Iterator[str]:
+    """A signal of some values: a box for each, a flat one for 0."""
+    device = " device" * row.is_of_device
+    for begin, until, value in row.spans(end):
         left, right = column(begin), column(until)
         shape = f"{left},{top + 12.5} {left + 4},{top + HIGH} {right - 4},{top + HIGH}"
         shape += f" {right},{top + 12.5} {right - 4},{top + LOW} {left + 4},{top + LOW}"
-        yield f'<polygon class="{"box" if value else "zero"}" points="{shape}"/>'
-        yield f'<text class="state" x="{(left + right) / 2:g}" y="{top + 16}">{state(signal, value)}</text>'
+        yield f'<polygon class="{"box" if value else "zero"}{device}" points="{shape}"/>'
+        yield f'<text class="state" x="{(left + right) / 2:g}" y="{top + 16}">{row.words[value]}</text>'
 
 
-def pulses(signal, top):
-    """A change that another follows at the same time: a narrow peak."""
-    for (time, value), (after, _) in zip(signal.changes, signal.changes[1:]):
-        if time == after and value:
-            yield f'<path class="wave" d="M{column(time)} {top + LOW} v{HIGH - LOW} h3 v{LOW - HIGH}"/>'
-
-
-def levels(signal, end, top):
-    """A signal of one bit: a line, high or low."""
-    path = ""
-    for begin, until, value in spans(signal, end):
+def levels(row: Row, end: int, top: int) -> Iterator[str]:
+    """A signal of two values: a line, high or low, with a narrow peak for a pulse."""
+    kind, path = "wave" + " device" * row.is_of_device, ""
+    for begin, until, value in row.spans(end):
         height = top + (HIGH if value else LOW)
         path += f"{'V' if path else f'M{column(begin)} '}{height}H{column(until)}"
-    yield f'<path class="wave" d="{path}"/>'
-    yield from pulses(signal, top)
+    yield f'<path class="{kind}" d="{path}"/>'
+    for line in row.pulses():
+        yield f'<path class="{kind}" d="M{column(line)} {top + LOW} v{HIGH - LOW} h3 v{LOW - HIGH}"/>'
 
 
-def grid(script, end, top, height):
+def crosses(row: Row, top: int) -> Iterator[str]:
+    """A cross at each line in which the device refused a command."""
+    for line in row.refused():
+        left = column(line) + 4
+        yield f'<path class="refused" d="M{left} {top + HIGH + 3} l9 9 m0 -9 l-9 9"/>'
+
+
+def grid(script: list[tuple[int, str]], top: int, height: int) -> Iterator[str]:
     """The lines of the script over their columns."""
-    for time, text in script:
-        left = column(time)
+    for line, (_, text) in enumerate(script):
+        left = column(line)
         yield f'<line class="grid" x1="{left}" y1="{top - 20}" x2="{left}" y2="{height}"/>'
-        yield f'<text x="{left + 4}" y="{top - 8}">{time}</text>'
-        yield f'<text transform="translate({left + 14},{top - 22}) rotate(-50)">{escape(text)}</text>'
-    yield f'<line class="grid" x1="{column(end)}" y1="{top - 20}" x2="{column(end)}" y2="{height}"/>'
+        yield f'<text x="{left + 4}" y="{top - 8}">{line}</text>'
+        yield f'<text transform="translate({left + 14},{top - 22}) rotate(-50)">{escape(text.removeprefix("ipi "))}</text>'
+    end = column(len(script))
+    yield f'<line class="grid" x1="{end}" y1="{top - 20}" x2="{end}" y2="{height}"/>'
 
 
-def drawn(dump):
+def drawn(dump: Dump) -> Iterator[str]:
     """The lines of the picture of a dump."""
-    shown = [signal for signal in dump.signals if is_shown(signal)]
-    script = [(time, text.removeprefix("ipi ")) for time, text in dump.named("line", ("script",)).changes]
-    top = int(30 + RISE * max(len(text) for _, text in script))
-    width = int(max(column(dump.end) + 20, *(column(time) + 30 + RUN * len(text) for time, text in script)))
-    height = top + ROW * len(shown) + 8
+    script, rows = script_of(dump), rows_of(dump)
+    texts = [text.removeprefix("ipi ") for _, text in script]
+    top = int(30 + RISE * max(map(len, texts)))
+    width = int(max(column(len(script)) + 20, *(column(line) + 30 + RUN * len(text) for line, text in enumerate(texts))))
+    height = top + ROW * len(rows) + 8
     yield f'<svg xmlns="http://www.w3.org/2000/svg" width="{width}" height="{height}" viewBox="0 0 {width} {height}">'
     yield f"<style>\n{STYLE}\n</style>"
     yield f'<rect width="{width}" height="{height}" fill="white"/>'
-    yield from grid(script, dump.end, top, height)
-    for place, signal in enumerate(shown):
+    yield from grid(script, top, height)
+    for place, row in enumerate(rows):
         above = top + ROW * place
-        label = f"reset {signal.name}" if signal.scope[0] == "reset_lines" else signal.name
-        yield f'<text class="name" x="{LEFT - 8}" y="{above + 17}">{label}</text>'
-        yield from (levels(signal, dump.end, above) if signal.width == 1 else boxes(signal, dump.end, above))
+        yield f'<text class="name" x="{LEFT - 8}" y="{above + 17}">{row.label}</text>'
+        yield from (levels if len(row.words) <= 2 else boxes)(row, len(script), above)
+        yield from crosses(row, above)
     yield "</svg>"
 
 
-def main(words):
-    if len(words) != 1:
-        print("usage: python3 views/picture.py DUMP", file=sys.stderr)
-        return 125
-    with open(words[0], encoding="ascii") as file:
-        dump = read(file.read())
-    sys.stdout.writelines(line + "\n" for line in drawn(dump))
+def main(words: Sequence[str]) -> int:
+    """Writes the picture of a replay."""
+    if len(words) not in (3, 4) or words[0] != "replay":
+        raise BadUse(USAGE)
+    _, obj, file, *topology = words
+    chip = chips.chosen(obj, objects.load(obj), topology).chip
+    content = to_numbers.in_numbers(read_file(file), file)
+    with tempfile.TemporaryDirectory() as room:
+        run = steps.steps_of(steps.Run(obj, chip, room), content, file)
+    text = "\n".join(waveform.dump(chip, run, steps.script_lines(content)))
+    sys.stdout.writelines(line + "\n" for line in drawn(read(text)))
     return 0
-
-
-if __name__ == "__main__":
-    sys.exit(main(sys.argv[1:]))

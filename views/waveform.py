@@ -1,138 +1,214 @@
-"""`--vcd replay OBJ SCRIPT [TOPO]`: the replay as a value change dump (IEEE 1364), for GTKWave.
+"""`--vcd [--ticks] [--gtkw FILE] replay OBJ SCRIPT [TOPO]`: the replay as a value change dump (IEEE 1364), for GTKWave.
 
-A unit is a signal by its name: of a slave its state, of a processor its mode, of a power node whether it is up, of a
-reset line whether it is asserted, of a clock other than a PLL whether it runs. They lie in the scopes of their power
-domains, and reset lines and clocks in scopes of their own. A script line is a unit of time, and 0 is the load; a line
-that is pulsed changes twice at one time, and so may any unit in a line `serve`. Two signals are texts, as GTKWave reads
-them: the line of the script, and what is answered in it.
+A unit is a signal by its name, as the book has it: of a slave its state, of a processor its mode, of a power node whether it is
+up, of a reset line whether it is asserted, of a clock other than a PLL whether it runs. They lie in the scopes of their power
+domains, and reset lines and clocks in scopes of their own. The scope `device` has each unit again, as the device has it: a
+command that it refused is an `x` there. A script line is a second, and 0 is the load; with `--ticks` a second is a unit of the
+script's time. Each command within a line has a time of its own, behind the line's. Three signals are texts, as GTKWave reads
+them: the line of the script, what is answered in it, and what the device refused. With `--gtkw` a saved view is written too.
 """
 
 import sys
 import tempfile
+from typing import Iterator, NamedTuple, Optional, Sequence
 
 import annotate
 import chip as chips
-import names
 import objects
+import saved_view
+import split
 import steps
 import to_names
 import to_numbers
+from chip import Chip
 from program import BadUse, read_file
 from steps import Unit
+from wave_signals import Signal, code_of, codes_of, name_of, scopes, values_of, width_of
 
-FIRST_CODE, CODES = 33, 94  # a signal's code is made of these characters
+USAGE = "--vcd is followed by replay OBJ SCRIPT [TOPO], with --ticks or --gtkw FILE before it or not"
 
 # The characters of a text that GTKWave reads escaped.
 ESCAPED = {ord(" "): "\\x20", ord("\t"): "\\t", ord("\\"): "\\\\"}
 
+# The texts: the line, what is answered in it, and what the device refused.
+TEXTS = ("line", "answer", "refused")
+
 ANSWERS = ("reply", "call", "drop", "busy", "late", "task", "notask", "smc")
 
-
-def code_of(place):
-    """The code of the signal at a place."""
-    code = ""
-    while place >= 0:
-        code += chr(FIRST_CODE + place % CODES)
-        place = place // CODES - 1
-    return code
+# The names of parts of a second, by how many they are.
+TIMESCALES = {1_000: "1 ms", 10_000: "100 us", 100_000: "10 us", 1_000_000: "1 us", 10_000_000: "100 ns", 100_000_000: "10 ns"}
 
 
-def width_of(chip, unit):
-    """How many bits the value of a unit has."""
-    if unit.kind != "node":
-        return 1
-    node = chip.nodes[unit.number]
-    return 2 if node.kind == "processor" else max(1, (len(node.states) - 1).bit_length())
+class Times(NamedTuple):
+    """When the lines of a script begin, in parts of a second."""
+
+    parts: int  # of a second
+    starts: list[int]  # of the load and of each line, and the end
 
 
-def scopes(chip):
-    """The scopes with their units: each power domain without a parent, with its own, the reset lines and the clocks."""
-    nodes = [chip.nodes[number] for number in sorted(chip.nodes)]
-    for power in (node for node in nodes if node.kind == "power" and node.parent is None):
-        yield from scopes_below(power, nodes, ())
-    yield ("reset_lines",), [Unit("line", line) for line in sorted(chip.lines)]
-    yield ("clocks",), [Unit("clock", clock) for clock in names.CLOCKS if not names.is_root(clock)]
+# The text of the dump.
 
 
-def scopes_below(power, nodes, above):
-    """The scope of a power node: it and what is directly below it, and then the power nodes below."""
-    below = [node for node in nodes if node.parent == power.number]
-    path = (*above, name_of(Unit("node", power.number)))
-    yield path, [Unit("node", node.number) for node in (power, *below) if node is power or node.kind != "power"]
-    for node in below:
-        if node.kind == "power":
-            yield from scopes_below(node, nodes, path)
-
-
-NAMES = {"node": names.node_name, "line": names.line_name, "clock": names.clock_name}
-
-
-def name_of(unit):
-    return NAMES[unit.kind](unit.number).replace(" ", "_")
-
-
-def value_text(chip, unit, value, code):
-    """A value change of a unit."""
-    width = width_of(chip, unit)
+def change(chip: Chip, signal: Signal, value: Optional[int], code: str) -> str:
+    """A value change of a signal; None is a value that the device refused."""
+    width = width_of(chip, signal)
+    if value is None:
+        return f"x{code}" if width == 1 else f"b{'x' * width} {code}"
     return f"{value}{code}" if width == 1 else f"b{value:0{width}b} {code}"
 
 
-def text_change(text, code):
+def text_change(text: str, code: str) -> str:
+    """A change of a text."""
     return f"s{text.translate(ESCAPED) or chr(92) + 'x20'} {code}"
 
 
-def declarations(chip, codes, texts):
+def comments(chip: Chip, codes: dict[Signal, str]) -> Iterator[str]:
+    """Which values mean what: comments with the words and the codes of the signals."""
+    found: dict[tuple[str, ...], list[str]] = {}
+    for signal, code in codes.items():
+        found.setdefault(tuple(word.replace(" ", "_") for word in values_of(chip, signal)), []).append(code)
+    for words, those in found.items():
+        yield f"$comment values {' '.join(words)} : {' '.join(those)} $end"
+
+
+def declarations(chip: Chip, codes: dict[Signal, str], texts: dict[str, str], parts: int) -> Iterator[str]:
     """The part of a dump that declares the scopes and signals."""
-    yield from ("$comment pmu --vcd replay $end", "$timescale 1 s $end", "$scope module script $end")
+    yield from ("$comment pmu --vcd replay $end", f"$timescale {TIMESCALES[parts]} $end")
+    yield from comments(chip, codes)
+    yield "$scope module script $end"
     yield from (f"$var string 1 {code} {name} $end" for name, code in texts.items())
     yield "$upscope $end"
-    open_path = ()
-    for path, units in scopes(chip):
+    open_path: tuple[str, ...] = ()
+    for path, signals in scopes(chip):
         while path[: len(open_path)] != open_path:
             open_path = open_path[:-1]
             yield "$upscope $end"
         yield from (f"$scope module {name} $end" for name in path[len(open_path) :])
-        yield from (f"$var wire {width_of(chip, unit)} {codes[unit]} {name_of(unit)} $end" for unit in units)
+        yield from (f"$var wire {width_of(chip, it)} {codes[it]} {name_of(it.unit)} $end" for it in signals)
         open_path = path
     yield from ["$upscope $end"] * len(open_path)
     yield "$enddefinitions $end"
 
 
-def answers_of(chip, told):
-    """By step what is answered and told in it, in words."""
-    found = {}
-    for line, meaning in zip(told.lines, annotate.meanings_of_replay(chip, told)):
+# When what happens.
+
+
+def ticks_of(line: str) -> int:
+    """How much time passes by a line."""
+    words = [word for _, word in to_numbers.words_of(line)]
+    return to_numbers.value_of(words[1]) or 0 if split.first_word(line) == "tick" else 0
+
+
+def times_of(run: steps.Steps, script: list[str], by_ticks: bool) -> Times:
+    """When the load and each line begin: a second after the one before, or, by ticks, in the second that their time is."""
+    lengths = [1] * (len(script) + 1)
+    for moment in run.moments:
+        lengths[moment.line] += len(moment.commands) + 1
+    places, second, within = [], 0, 0
+    for length, line in zip(lengths, ["", *script]):
+        passed = (ticks_of(line) if by_ticks else 1) if places else 0
+        second, within = second + passed, 0 if passed else within
+        places.append((second, within))
+        within += length
+    most = max(within + length for (_, within), length in zip(places, lengths))
+    parts = next((parts for parts in TIMESCALES if parts > most), None)
+    if parts is None:
+        raise BadUse("more happens in a unit of time than a dump has parts of it")
+    return Times(parts, [second * parts + within for second, within in places] + [(second + 1) * parts])
+
+
+Changes = dict[int, list[str]]
+
+
+def add_moment(changes: Changes, chip: Chip, codes: dict[Signal, str], kept: dict[Unit, int], moment: steps.Moment, start: int) -> int:
+    """Adds what a moment changes: the book at its start, and each command in its turn. Gives when the next moment begins."""
+    for unit, value in moment.book:
+        signal = Signal(unit, False)
+        changes.setdefault(start, []).append(change(chip, signal, value, codes[signal]))
+    refused: list[Signal] = []
+    for time, (unit, value, is_taken) in enumerate(moment.commands, start + 1):
+        # (an `x` ends with the next command)
+        changes.setdefault(time, []).extend(change(chip, it, kept.get(it.unit, 0), codes[it]) for it in refused)
+        signal = Signal(unit, True)
+        if is_taken:
+            kept[unit] = value
+        refused = [] if is_taken else [signal]
+        changes[time].append(change(chip, signal, value if is_taken else None, codes[signal]))
+    end = start + len(moment.commands) + 1
+    if refused:
+        changes.setdefault(end, []).extend(change(chip, it, kept.get(it.unit, 0), codes[it]) for it in refused)
+    return end
+
+
+def unit_changes(chip: Chip, run: steps.Steps, codes: dict[Signal, str], times: Times) -> Changes:
+    """The value changes of the units by their times."""
+    changes: Changes = {}
+    kept: dict[Unit, int] = {}
+    line, time = -1, 0
+    for moment in run.moments:
+        time = times.starts[moment.line] if moment.line != line else time
+        line = moment.line
+        time = add_moment(changes, chip, codes, kept, moment, time)
+    return changes
+
+
+def words_by_line(chip: Chip, run: steps.Steps) -> dict[str, dict[int, str]]:
+    """By line what is answered and told in it, and what the device refused, in words."""
+    found: dict[str, dict[int, list[str]]] = {"answer": {}, "refused": {}}
+    for line, meaning in zip(run.replay.lines, annotate.meanings_of_replay(chip, run.replay)):
         step, kind, *_ = line.split()
-        if step != "end" and kind in ANSWERS:
-            found.setdefault(int(step), []).append(meaning)
-    return {step: "; ".join(said) for step, said in found.items()}
+        text = "answer" if kind in ANSWERS else "refused" if kind in ("fail", "linefail") else None
+        if step != "end" and text:
+            found[text].setdefault(int(step), []).append(meaning.removesuffix(": refused by the device"))
+    return {text: {line: "; ".join(said) for line, said in lines.items()} for text, lines in found.items()}
 
 
-def dump(chip, told, script):
+def dump(chip: Chip, run: steps.Steps, script: list[str], by_ticks: bool = False) -> Iterator[str]:
     """The lines of the dump of the steps of a script in numbers."""
-    units = [unit for _, members in scopes(chip) for unit in members]
-    codes = {unit: code_of(place) for place, unit in enumerate(units)}
-    texts = {"line": code_of(len(units)), "answer": code_of(len(units) + 1)}
-    yield from declarations(chip, codes, texts)
-    first, answers = dict(told.changes[0]), answers_of(chip, told.replay)
-    yield from ("#0", "$dumpvars", text_change("load", texts["line"]), text_change(answers.get(0, ""), texts["answer"]))
-    yield from (value_text(chip, unit, first.get(unit, 0), codes[unit]) for unit in units)
+    codes = codes_of(chip)
+    texts = {name: code_of(len(codes) + place) for place, name in enumerate(TEXTS)}
+    times, said = times_of(run, script, by_ticks), words_by_line(chip, run)
+    said["line"] = dict(enumerate(["load", *(to_names.line_in_names(line, {}) for line in script)]))
+    yield from declarations(chip, codes, texts, times.parts)
+    changes = unit_changes(chip, run, codes, times)
+    yield from ("#0", "$dumpvars")
+    yield from (text_change(said[name].get(0, ""), code) for name, code in texts.items())
+    first = dict(run.moments[0].book)
+    yield from (change(chip, it, 0 if it.of_device else first.get(it.unit, 0), code) for it, code in codes.items())
     yield "$end"
-    for step, line in enumerate(script, 1):
-        yield f"#{step}"
-        yield text_change(to_names.line_in_names(line, {}), texts["line"])
-        yield text_change(answers.get(step, ""), texts["answer"])
-        yield from (value_text(chip, unit, value, codes[unit]) for unit, value in told.changes[step])
-    yield f"#{len(script) + 1}"
+    for line, start in enumerate(times.starts[1:-1], 1):
+        told = [text_change(said[name].get(line, ""), code) for name, code in texts.items()]
+        changes[start] = told + changes.get(start, [])
+    changes.pop(0, None)
+    for time in sorted(changes):
+        yield from (f"#{time}", *changes[time])
+    yield f"#{times.starts[-1]}"
 
 
-def main(words):
-    if len(words) not in (3, 4) or words[0] != "replay":
-        raise BadUse("--vcd is followed by replay OBJ SCRIPT [TOPO]")
-    _, obj, file, *topology = words
+def options_of(words: Sequence[str]) -> tuple[bool, Optional[str], list[str]]:
+    """Whether time is by ticks, the file of the saved view if one is wanted, and the words behind."""
+    rest, by_ticks, view = list(words), False, None
+    while rest and rest[0] in ("--ticks", "--gtkw"):
+        if rest.pop(0) == "--ticks":
+            by_ticks = True
+        elif not rest:
+            raise BadUse(USAGE)
+        else:
+            view = rest.pop(0)
+    if len(rest) not in (3, 4) or rest[0] != "replay":
+        raise BadUse(USAGE)
+    return by_ticks, view, rest
+
+
+def main(words: Sequence[str]) -> int:
+    """Writes the dump of a replay."""
+    by_ticks, view, (_, obj, file, *topology) = options_of(words)
     chip = chips.chosen(obj, objects.load(obj), topology).chip
     content = to_numbers.in_numbers(read_file(file), file)
     with tempfile.TemporaryDirectory() as room:
-        told = steps.steps_of(obj, chip, content, room, file)
-    sys.stdout.writelines(line + "\n" for line in dump(chip, told, steps.script_lines(content)))
+        run = steps.steps_of(steps.Run(obj, chip, room), content, file)
+    lines = list(dump(chip, run, steps.script_lines(content), by_ticks))
+    if view is not None:
+        saved_view.write(view, chip, run)
+    sys.stdout.writelines(line + "\n" for line in lines)
     return 0

@@ -20,6 +20,7 @@ Views of what it reads and writes, in other ways:
        ./pmu --names FORM..      the output of a form above, with what each line means; NODE and files may have names
        ./pmu --numbers FILE      a script or a text that is written with names, in numbers
        ./pmu --vcd replay OBJ SCRIPT    a value change dump, for a waveform viewer
+       ./pmu --svg replay OBJ SCRIPT    the waveform as a picture
        ./pmu --dot reach OBJ NODE       a graph, for Graphviz
        ./pmu from-c FILE.c              the object of the C file of the vendor's tools; with -o OBJ, as a file
        ./pmu lint [--strict] OBJ        what the program passes over in an object; strict: exit 102 if there is any

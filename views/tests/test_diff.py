@@ -1,13 +1,10 @@
 """What `diff` shows of a script with and without the messages of a master."""
 
-import os
 import unittest
 
 import annotate
 import diff
-import permits
 import program as programs
-import steps
 from common import Case, board_of, example, examples, program, view
 
 # RPU_0 asks for SATA, which one master at a time may use, while APU has it; and more.
@@ -50,7 +47,7 @@ of APU alone:
 step 1: ipi APU INIT_FINALIZE
   slave UART_0     on -> off                             | -
 step 8: ipi APU RESET_ASSERT UART_0 PULSE
-  line UART_0      released -> asserted -> released      | -
+  device line UART_0  released -> asserted -> released      | -
 step 10: wfi RPU_0
   callback to APU  ACKNOWLEDGE_CB RPU_0: success, asleep | -
 successes that others lose: 1 denied, 0 refused, 0 not heard
@@ -152,68 +149,6 @@ class Text(Case):
         self.assertEqual(view("diff", script, script, "1")[:2], (2, program("print", script)[1]))
         status, output, _ = view("diff", example("two-masters.obj"), self.file("bad", "ipi 1 21\nwhat\n"), "1")
         self.assertEqual((status, output.splitlines()[-1]), (3, b"fault line 2 1"))
-
-
-# Lines after those of SCRIPT: a reset line that stays asserted, and a processor and its domain that stay down.
-MORE = """ipi 1 17 33 1
-ipi 1 8 7 2
-"""
-
-
-class Comparison(Case):
-    """The units that move otherwise are those that the program says differ.
-
-    Each script of the examples runs over the object that most of them are for; of the other objects one script tells
-    enough, in which processors start with their presets and power domains go up and down.
-    """
-
-    def setUp(self):
-        super().setUp()
-        self.count, self.kinds, self.known = 0, set(), {}
-
-    def moves(self, path, content):
-        """What moves in the run of a script, by step: units with their first and last values."""
-        if (path, content) not in self.known:
-            steps_moves = enumerate(diff.moves_of(steps.steps_of(path, board_of(path).chip, content, self._room.name)))
-            moves = {(step, unit, values[0], values[-1]) for step, moves in steps_moves for unit, values in moves.items()}
-            # (a line that is pulsed has the same value before and after)
-            self.known[path, content] = {move for move in moves if move[2] != move[3]}
-        return self.known[path, content]
-
-    def check(self, path, script, node):
-        """Compares a script and one without the messages of a master with what the program says of the two."""
-        first = programs.read_file(script)
-        second, silenced = diff.without_messages(first, node)
-        if not silenced:
-            return
-        self.count += 1
-        chip = board_of(path).chip
-        status, compared, _ = program("isolate", path, script, str(node), *chip.words())
-        self.assertEqual(status, 0)
-        wanted = {tuple(line.split()[1:]) for line in compared.decode().splitlines() if line.startswith("differ")}
-        # (it doesn't list clocks)
-        units = {unit for _, unit, _, _ in self.moves(path, first) ^ self.moves(path, second) if unit.kind != "clock"}
-        found = {(diff.title(chip, (unit.kind, unit.number)).split()[0], str(unit.number)) for unit in units}
-        self.assertEqual(found, wanted)
-        self.kinds |= {kind for kind, _ in found}
-
-    def check_all(self, path, script):
-        for node in permits.masters(board_of(path)):
-            with self.subTest(f"{os.path.basename(path)} {os.path.basename(script)} {node}"):
-                self.check(path, script, node)
-
-    def test_each_script_and_each_object_of_the_examples(self):
-        main = example("laboratory.obj")
-        for script in examples(".script"):
-            self.check_all(main, script)
-        for path in examples(".obj"):
-            if path != main:
-                self.check_all(path, example("domains.script"))
-        self.assertGreater(self.count, 15)
-
-    def test_each_kind_of_unit(self):
-        self.check_all(example("laboratory.obj"), self.file("kinds.script", SCRIPT + MORE))
-        self.assertEqual(self.kinds, {"slave", "proc", "power", "line"})
 
 
 class Messages(unittest.TestCase):

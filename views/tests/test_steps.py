@@ -47,20 +47,28 @@ SCRIPTS = {
 }
 
 
+def book_of(table):
+    """The values of the book in a closing table that aren't 0."""
+    return {unit: value for unit, (value, _) in table.items() if value}
+
+
 class Steps(Case):
     def values(self, obj, content):
         """After each step the values that aren't 0."""
-        told, values, after = steps.steps_of(obj, chips.read(), content, self._room.name), {}, []
-        for step in told.changes:
-            values.update(step)
-            after.append({unit: value for unit, value in values.items() if value})
+        told = steps.steps_of(steps.Run(obj, chips.read(), self._room.name), content)
+        values, after = {}, [{} for _ in range(len(steps.script_lines(content)) + 1)]
+        moments = list(told.moments)
+        for line in range(len(after)):
+            while moments and moments[0].line == line:
+                values.update(moments.pop(0).book)
+            after[line] = {unit: value for unit, value in values.items() if value}
         return told, after
 
     def closing(self, obj, script):
         """The values in the closing table of a script that aren't 0."""
         status, output, _ = program("replay", obj, self.file("part", script))
         self.assertEqual(status, 0)
-        return {unit: value for unit, value in steps.closing_of(output.decode().splitlines()).items() if value}
+        return book_of(steps.closing_of(output.decode().splitlines()))
 
     def check(self, obj, script):
         told, after = self.values(obj, script.encode())
@@ -68,7 +76,7 @@ class Steps(Case):
         self.assertEqual(len(after), len(lines) + 1)
         for count, values in enumerate(after):
             self.assertEqual(values, self.closing(obj, "".join(lines[:count])), (script, count))
-        self.assertEqual({unit: value for unit, value in told.closing.items() if value}, after[-1])
+        self.assertEqual(book_of(told.closing), after[-1])
 
     def test_the_values_after_each_line_are_those_of_the_closing_table(self):
         status, content, _ = program("build", self.file("text", OBJECT))
