@@ -44,17 +44,11 @@ static void send(const struct sender *from, const char *what, uint32_t api, uint
     uint32_t buffer = IPI_BUFFERS + from->index * IPI_GROUP + IPI_PMU_INDEX * IPI_TARGET;
     for (uint32_t k = 0; k < 6; k++)
         ipi_write32(buffer + 4 * k, words[k]);
-    for (uint32_t k = 0; k < 4; k++)
-        ipi_write32(buffer + IPI_RESPONSE + 4 * k, 0xFFFFFFFF); /* to see whether it is answered */
     ipi_write32(from->base + IPI_TRIG, IPI_PMU_BIT);
     while ((ipi_read32(from->base + IPI_OBS) & IPI_PMU_BIT) != 0) {
     }
-    printf("%s sends %s: ", from->name, what);
-    if (ipi_read32(buffer + IPI_RESPONSE) == 0xFFFFFFFF)
-        printf("no response\n");
-    else
-        printf("status %u, word %u\n", (unsigned)ipi_read32(buffer + IPI_RESPONSE),
-               (unsigned)ipi_read32(buffer + IPI_RESPONSE + 4));
+    printf("%s sends %s: status %u, word %u\n", from->name, what, (unsigned)ipi_read32(buffer + IPI_RESPONSE),
+           (unsigned)ipi_read32(buffer + IPI_RESPONSE + 4));
 }
 
 /* The handler of the interrupt: takes each callback. */

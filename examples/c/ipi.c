@@ -107,10 +107,12 @@ void ipi_finish(uint32_t answer)
         tell(line);
 }
 
-/* The management unit takes the message of an agent, and the agent's bit is gone before the agent looks again. */
+/* The management unit takes the message of an agent, and the agent's bit is gone before the agent looks again. It clears
+ * the response, so that what an earlier message left there isn't read as the answer to one that has none. */
 static void serve(const struct agent *agent)
 {
     const uint32_t *words = message(agent->index, IPI_PMU_INDEX);
+    memset(response(agent->index, IPI_PMU_INDEX), 0, IPI_TARGET - IPI_RESPONSE);
     ipi_finish(pmu_ipi(core, agent->master, words[0], words[1], words[2], words[3], words[4], words[5]));
 }
 
@@ -128,17 +130,39 @@ bool ipi_is_pending(uint32_t base)
     return false;
 }
 
+/* OBS: the agents that this one has interrupted and that haven't taken it yet, so that it doesn't write another message
+ * over one that waits. The management unit's bit is never there: it takes a message when it is sent. */
+static uint32_t observed(const struct agent *from)
+{
+    uint32_t bits = 0;
+    for (unsigned k = 0; k < AGENTS; k++)
+        if ((agents[k].status & from->bit) != 0)
+            bits |= agents[k].bit;
+    return bits;
+}
+
+static uint32_t read_register(const struct agent *agent, uint32_t offset)
+{
+    switch (offset) {
+    case IPI_OBS:
+        return observed(agent);
+    case IPI_ISR:
+        return agent->status;
+    case IPI_IMR:
+        return agent->mask;
+    default:
+        return 0;
+    }
+}
+
 uint32_t ipi_read32(uint32_t address)
 {
     if (address - IPI_BUFFERS < SIZE)
         return buffers[(address - IPI_BUFFERS) / 4];
-    for (unsigned k = 0; k < AGENTS; k++) {
-        if (address == agents[k].base + IPI_ISR)
-            return agents[k].status;
-        if (address == agents[k].base + IPI_IMR)
-            return agents[k].mask;
-    }
-    return 0; /* IPI_OBS too: each message was taken when it was sent */
+    for (unsigned k = 0; k < AGENTS; k++)
+        if (address - agents[k].base <= IPI_IDR)
+            return read_register(&agents[k], address - agents[k].base);
+    return 0;
 }
 
 static void write_register(struct agent *agent, uint32_t offset, uint32_t value)
