@@ -9,12 +9,15 @@ import sys
 import tempfile
 
 import chip as chips
+import faults
+import idle
 import names
 import objects
 import permits
 import steps
 import to_numbers
 from program import BadUse, read_file, run, run_text, write_file
+from told import tell
 
 LONGEST = 255  # bytes of a line of a text
 WIDEST = 40  # no column of comments begins further right
@@ -185,6 +188,34 @@ def meaning_of_answer(chip, message, status, words):
     return ", ".join(said).replace("node used, by", "node used by")
 
 
+def lags(chip, message, failed):
+    """What is said of units that the device has otherwise than the book: the nodes of a message and those above them, by
+    the commands that failed in its step, each with the value that the unit has."""
+    _, api, *words = message
+    arguments = zip(getattr(names.CALLS.get(api), "arguments", None) or (), words)
+    nodes = [number for kind, number in arguments if kind == "node" and number in chip.nodes]
+    shown = [unit for unit in failed if any(unit == node or chip.is_above(unit, node) for node in nodes)]
+    return "".join(f"; {names.node_name(unit)} lags: {chip.kept_name(unit, failed[unit])}" for unit in shown)
+
+
+def failed_by_step(lines):
+    """Of each step the nodes whose commands failed in it, each with the value that the device has. What failed is tried
+    again in each step."""
+    failed = {}
+    for step, kind, *rest in lines:
+        if kind == "fail":
+            unit, kept, _ = map(int, rest)
+            failed.setdefault(step, {})[unit] = kept
+    return failed
+
+
+def meaning_of_reply(chip, message, words, failed):
+    """An answer, and which units lag where it is a success."""
+    master, status, *rest = words
+    said = f"{names.node_name(master)}: {meaning_of_answer(chip, message, status, rest)}"
+    return said + lags(chip, message, failed) * (status == 0)
+
+
 def meaning_of_callback(chip, callback, words):
     name = names.callback_name(callback)
     if callback == 30:
@@ -226,7 +257,7 @@ def meanings_of_cores(chip, lines, script):
     """What the lines of `replay` mean where each line of the script, which is in numbers, is one core event."""
     split = [line.split() for line in lines]
     messages = {number: message_of(line) for number, line in enumerate(script, 1)}
-    answered = answers(split, messages)
+    answered, failed = answers(split, messages), failed_by_step(split)
     for place, (step, kind, *rest) in enumerate(split):
         words = list(map(int, rest)) if step != "end" else []
         if step == "end":
@@ -238,7 +269,7 @@ def meanings_of_cores(chip, lines, script):
         elif kind == "call":
             yield f"{names.node_name(words[0])}: {meaning_of_callback(chip, words[1], words[2:])}"
         elif kind == "reply" and place in answered:
-            yield f"{names.node_name(words[0])}: {meaning_of_answer(chip, messages[int(step)], words[1], words[2:])}"
+            yield meaning_of_reply(chip, messages[int(step)], words, failed.get(step, {}))
         elif kind == "reply":
             yield f"{names.node_name(words[0])}: its request to suspend ended with {names.status_words(words[1])}"
         else:
@@ -310,9 +341,13 @@ def beside(board, node, lines):
 
 
 def replay(room, obj, script, *topology):
-    chip = chip_of(obj, topology)
-    told = steps.replay_of(steps.Run(obj, chip, room), to_numbers.in_numbers(read_file(script), script), script)
-    show(told.lines, meanings_of_replay(chip, told))
+    board = chips.chosen(obj, objects.load(obj), topology)
+    content = read_file(script)
+    numbers = to_numbers.in_numbers(content, script)
+    told = steps.replay_of(steps.Run(obj, board.chip, room), numbers, script)
+    show(told.lines, meanings_of_replay(board.chip, told))
+    for said in idle.told_once(idle.idle(board, steps.script_lines(numbers), steps.script_lines(content))):
+        tell(f"pmu: {faults.name_of(script)}:{said}")
 
 
 def reach(_room, obj, node, *topology):

@@ -10,31 +10,12 @@ import os
 from typing import Iterable, NamedTuple, Optional, Sequence
 
 import faults
-import lines as texts
 import names
 import objects
 import program
 import reached
 from told import tell
-
-FOLDER = os.path.join(os.path.dirname(os.path.dirname(os.path.abspath(__file__))), "topologies")
-# That of the program, and the one with the published reset lines.
-OWN, PUBLISHED = (os.path.join(FOLDER, name) for name in ("zynqmp.topology", "zynqmp-resets.topology"))
-
-KINDS = {"power": "power", "proc": "processor", "slave": "slave"}
-
-# What a state of a slave is called, by the first of these capabilities that it has.
-ACCESS, CONTEXT, WAKEUP = 1, 2, 4
-STATE_NAMES = {ACCESS: "on", CONTEXT: "retention", WAKEUP: "asleep"}
-
-
-class Node(NamedTuple):
-    """A unit of the chip."""
-
-    number: int
-    kind: str  # power, processor or slave
-    parent: Optional[int]  # the power node directly above
-    states: tuple[int, ...] = ()  # of a slave: the capabilities of each of its states
+from topology import FOLDER, OWN, PUBLISHED, Node, Topology, parsed
 
 
 class Chip(NamedTuple):
@@ -79,11 +60,7 @@ class Chip(NamedTuple):
 
     def kept_name(self, number: int, value: int) -> str:
         """A value that the device has in words; of a processor, whether it runs."""
-        states = self.nodes[number].states if number in self.nodes else ()
-        said = [state_name(word) for word in states] or ["off", "on"]
-        if value >= len(said):
-            return str(value)
-        return said[value] if said.count(said[value]) == 1 else f"{said[value]} ({value})"
+        return Topology(self.nodes, self.lines, self.owners).kept_name(number, value)
 
 
 class Board(NamedTuple):
@@ -93,35 +70,9 @@ class Board(NamedTuple):
     chip: Chip
 
 
-def state_name(capabilities: int) -> str:
-    """What a state of a slave with these capabilities is called."""
-    return next((name for bit, name in STATE_NAMES.items() if capabilities & bit), "off")
-
-
-def number_or_none(word: str) -> Optional[int]:
-    """A number of a topology, or None for the word `none`."""
-    return None if word == "none" else texts.number_of(word)
-
-
 def chip_of(lines: Iterable[bytes], source: Optional[str]) -> Chip:
     """The chip of the lines of a topology in which nothing is wrong."""
-    chip = Chip(source, {}, {}, {}, {})
-    last = None
-    for line in lines:
-        word, *rest = texts.words_of(line) or [""]
-        numbers = [number_or_none(each) for each in rest]
-        if word in KINDS:
-            last = numbers[0]
-            chip.nodes[last] = Node(last, KINDS[word], numbers[1])
-        elif word == "state":
-            node = chip.nodes[last]
-            chip.nodes[last] = node._replace(states=(*node.states, numbers[0]))
-        elif word == "line":
-            chip.lines[numbers[0]] = numbers[1]
-        elif word == "owner":
-            chip.owners[numbers[0]] = (*chip.owners.get(numbers[0], ()), *numbers[1:])
-        elif word:
-            raise ValueError(word)
+    chip = Chip(source, *parsed(lines), {})
     chip.resets.update({line: reached.all_targets(chip, line) for line in chip.lines})
     return chip
 

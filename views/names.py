@@ -8,125 +8,57 @@ include/dt-bindings/reset/xlnx-zynqmp-resets.h) and of TF-A (plat/xilinx/zynqmp/
 """
 
 import textwrap
-from typing import NamedTuple, Optional
+from typing import Any, Iterator, NamedTuple, Optional
 
+import findings
+import topology
 from program import BadUse
 
 
 class Node(NamedTuple):
     number: int
     name: str
-    kind: str  # power, processor, one of STATES, or absent: published, but not in the table of the chip
+    kind: str  # power, processor, slave, or absent: published, but not on the chip
     parent: Optional[int] = None  # the power node directly above
 
 
 class Clock(NamedTuple):
     number: int
     node: int  # the slave that it feeds; of a root the PLL that it comes from
-    parents: tuple  # the clocks that can feed it, by their index; a root has none
+    parents: tuple[int, ...]  # the clocks that can feed it, by their index; a root has none
 
 
 class Call(NamedTuple):
     number: int
     name: str
-    arguments: Optional[tuple]  # what each word means, a key of WORDS or a plain word; None where it isn't served
+    arguments: Optional[tuple[str, ...]]  # what each word means, a key of WORDS or a plain word; None where it isn't served
 
-
-# The states of a class of slaves, from 0 on.
-STATES = {
-    "memory": ("off", "retention", "on"),
-    "dram": ("off", "retention", "on"),
-    "peripheral": ("off", "on"),
-    "block": ("off", "on"),
-    "external": ("on",),
-}
-
-# The capabilities that a slave of a class has.
-CLASS_CAPABILITIES = {"memory": 3, "dram": 3, "peripheral": 7, "block": 3, "external": 7}
 
 MODES = {0: "off", 1: "active", 2: "asleep", 3: "suspending"}
 
-_NODES = [
-    (1, "APU", "power", 10),
-    (2, "APU_0", "processor", 1),
-    (3, "APU_1", "processor", 1),
-    (4, "APU_2", "processor", 1),
-    (5, "APU_3", "processor", 1),
-    (6, "RPU", "power", 62),
-    (7, "RPU_0", "processor", 6),
-    (8, "RPU_1", "processor", 6),
-    (9, "PLD", "power", None),
-    (10, "FPD", "power", None),
-    (11, "OCM_BANK_0", "memory", 62),
-    (12, "OCM_BANK_1", "memory", 62),
-    (13, "OCM_BANK_2", "memory", 62),
-    (14, "OCM_BANK_3", "memory", 62),
-    (15, "TCM_0_A", "memory", 6),
-    (16, "TCM_0_B", "memory", 6),
-    (17, "TCM_1_A", "memory", 6),
-    (18, "TCM_1_B", "memory", 6),
-    (19, "L2", "memory", 10),
-    (20, "GPU_PP_0", "block", 10),
-    (21, "GPU_PP_1", "block", 10),
-    (22, "USB_0", "peripheral", 62),
-    (23, "USB_1", "peripheral", 62),
-    (24, "TTC_0", "peripheral", 62),
-    (25, "TTC_1", "peripheral", 62),
-    (26, "TTC_2", "peripheral", 62),
-    (27, "TTC_3", "peripheral", 62),
-    (28, "SATA", "peripheral", 10),
-    (29, "ETH_0", "peripheral", 62),
-    (30, "ETH_1", "peripheral", 62),
-    (31, "ETH_2", "peripheral", 62),
-    (32, "ETH_3", "peripheral", 62),
-    (33, "UART_0", "peripheral", 62),
-    (34, "UART_1", "peripheral", 62),
-    (35, "SPI_0", "peripheral", 62),
-    (36, "SPI_1", "peripheral", 62),
-    (37, "I2C_0", "peripheral", 62),
-    (38, "I2C_1", "peripheral", 62),
-    (39, "SD_0", "peripheral", 62),
-    (40, "SD_1", "peripheral", 62),
-    (41, "DP", "block", 10),
-    (42, "GDMA", "peripheral", 10),
-    (43, "ADMA", "peripheral", 62),
-    (44, "NAND", "peripheral", 62),
-    (45, "QSPI", "peripheral", 62),
-    (46, "GPIO", "peripheral", 62),
-    (47, "CAN_0", "peripheral", 62),
-    (48, "CAN_1", "peripheral", 62),
-    (49, "EXTERN", "external", 62),
-    (50, "APLL", "block", 10),
-    (51, "VPLL", "block", 10),
-    (52, "DPLL", "block", 10),
-    (53, "RPLL", "block", 62),
-    (54, "IOPLL", "block", 62),
-    (55, "DDR", "dram", 10),
-    (56, "IPI_APU", "peripheral", 62),
-    (57, "IPI_RPU_0", "peripheral", 62),
-    (58, "GPU", "block", 10),
-    (59, "PCIE", "block", 10),
-    (60, "PCAP", "block", 62),
-    (61, "RTC", "peripheral", 62),
-    (62, "LPD", "power", None),
-    (63, "VCU", "block", 9),
-    (64, "IPI_RPU_1", "peripheral", 62),
-    (65, "IPI_PL_0", "peripheral", 62),
-    (66, "IPI_PL_1", "peripheral", 62),
-    (67, "IPI_PL_2", "peripheral", 62),
-    (68, "IPI_PL_3", "peripheral", 62),
-    (69, "PL", "block", 9),
-    (70, "GEM_TSU", "absent", None),
-    (71, "SWDT_0", "absent", None),
-    (72, "SWDT_1", "absent", None),
-    (73, "CSU", "absent", None),
-    (74, "PJTAG", "absent", None),
-    (75, "TRACE", "absent", None),
-    (76, "TESTSCAN", "absent", None),
-    (77, "PMU", "absent", None),
-]
+# The published names of the nodes. What each is, and which of them the chip has, its topology says.
+_NODES = {
+    1: "APU", 2: "APU_0", 3: "APU_1", 4: "APU_2", 5: "APU_3", 6: "RPU", 7: "RPU_0", 8: "RPU_1", 9: "PLD", 10: "FPD",
+    11: "OCM_BANK_0", 12: "OCM_BANK_1", 13: "OCM_BANK_2", 14: "OCM_BANK_3", 15: "TCM_0_A", 16: "TCM_0_B", 17: "TCM_1_A",
+    18: "TCM_1_B", 19: "L2", 20: "GPU_PP_0", 21: "GPU_PP_1", 22: "USB_0", 23: "USB_1", 24: "TTC_0", 25: "TTC_1",
+    26: "TTC_2", 27: "TTC_3", 28: "SATA", 29: "ETH_0", 30: "ETH_1", 31: "ETH_2", 32: "ETH_3", 33: "UART_0",
+    34: "UART_1", 35: "SPI_0", 36: "SPI_1", 37: "I2C_0", 38: "I2C_1", 39: "SD_0", 40: "SD_1", 41: "DP", 42: "GDMA",
+    43: "ADMA", 44: "NAND", 45: "QSPI", 46: "GPIO", 47: "CAN_0", 48: "CAN_1", 49: "EXTERN", 50: "APLL", 51: "VPLL",
+    52: "DPLL", 53: "RPLL", 54: "IOPLL", 55: "DDR", 56: "IPI_APU", 57: "IPI_RPU_0", 58: "GPU", 59: "PCIE", 60: "PCAP",
+    61: "RTC", 62: "LPD", 63: "VCU", 64: "IPI_RPU_1", 65: "IPI_PL_0", 66: "IPI_PL_1", 67: "IPI_PL_2", 68: "IPI_PL_3",
+    69: "PL", 70: "GEM_TSU", 71: "SWDT_0", 72: "SWDT_1", 73: "CSU", 74: "PJTAG", 75: "TRACE", 76: "TESTSCAN", 77: "PMU",
+}  # fmt: skip
 
-NODES = {row[0]: Node(*row) for row in _NODES}
+
+def _node(number: int, name: str) -> Node:
+    unit = CHIP.nodes.get(number)
+    return Node(number, name, unit.kind if unit else "absent", unit.parent if unit else None)
+
+
+# The chip of the repository's topology, which is the program's own.
+CHIP = topology.read(topology.OWN)
+
+NODES = {number: _node(number, name) for number, name in _NODES.items()}
 
 _CLOCKS = [
     (0, 50, ()),
@@ -151,7 +83,7 @@ _CLOCKS = [
 CLOCKS = {row[0]: Clock(*row) for row in _CLOCKS}
 
 # The masters and their processors; a master has the number of a node: 6 is the RPU in lock-step.
-MASTERS = {1: (2, 3, 4, 5), 6: (7,), 7: (7,), 8: (8,)}
+MASTERS = CHIP.owners
 
 # The IPI mask that a master has in an object as the vendor's tools write it: the bit of its interrupt.
 IPI_MASKS = {1: 0x1, 6: 0x100, 7: 0x100, 8: 0x200}
@@ -321,83 +253,72 @@ ALIASES = {
 }
 
 
-def is_in_table(number):
-    """Whether the table of the chip has the node; it has a reset line of that number where it isn't a power node."""
-    return number in NODES and NODES[number].kind != "absent"
+def is_line(number: int) -> bool:
+    """Whether the chip's own topology has the reset line; it has the number of a node."""
+    return number in CHIP.lines
 
 
-def is_line(number):
-    """Whether the table of the chip has the reset line."""
-    return is_in_table(number) and NODES[number].kind != "power"
-
-
-def is_slave(number):
-    return number in NODES and NODES[number].kind in STATES
-
-
-def slaves():
-    """The numbers of the slaves, rising."""
-    return [number for number in NODES if is_slave(number)]
-
-
-def node_name(number):
+def node_name(number: int) -> str:
+    """The name of a node, or its number in words."""
     return NODES[number].name if number in NODES else f"node {number}"
 
 
-def line_name(number):
+def line_name(number: int) -> str:
     """The name of a reset line: of the table's line n the node n, and of a published one its own."""
     if number in RESETS:
         return PREFIXES["reset"][0] + RESETS[number]
     return NODES[number].name if is_line(number) else f"line {number}"
 
 
-def is_root(number):
+def is_root(number: int) -> bool:
     """Whether a clock is a root: it runs where its PLL does, and no call changes it."""
     return number in CLOCKS and not CLOCKS[number].parents
 
 
-def clock_name(number):
+def clock_name(number: int) -> str:
     """The name of a clock: that of its node."""
     return NODES[CLOCKS[number].node].name if number in CLOCKS else str(number)
 
 
-def clock_words(number):
+def clock_words(number: int) -> str:
     """A clock in plain words: a root is the name of its PLL."""
     name = clock_name(number)
     return name if is_root(number) else f"the clock of {name}" if number in CLOCKS else f"clock {number}"
 
 
-def call_name(number):
+def call_name(number: int) -> str:
+    """The name of a call, or its number in words."""
     return CALLS[number].name if number in CALLS else f"call {number}"
 
 
-def callback_name(number):
+def callback_name(number: int) -> str:
+    """The name of a callback, or its number in words."""
     return CALLBACKS[number].name if number in CALLBACKS else f"callback {number}"
 
 
-def status_words(number):
+def status_words(number: int) -> str:
     """A status in plain words: `no access` is 2002."""
     return STATUSES[number].lower().replace("_", " ") if number in STATUSES else f"status {number}"
 
 
-def set_name(kind, word):
+def set_name(kind: str, word: int) -> str:
     """A set of bits as names, `ACCESS|CONTEXT`; 0 stays a number."""
     table = WORDS[kind]
     rest = word & ~sum(table)
     return "|".join([name for bit, name in table.items() if word & bit] + [hex(rest)] * (rest != 0)) or "0"
 
 
-def capabilities(word):
+def capabilities(word: int) -> str:
+    """A set of capabilities as names."""
     return set_name("capabilities", word)
 
 
-def state_name(number, value):
+def state_name(number: int, value: int) -> str:
     """The state of a slave, processor or power node by its value: `off`, `retention`, `on`."""
-    states = STATES.get(NODES[number].kind, ("off", "on")) if number in NODES else ()
-    return states[value] if value < len(states) else str(value)
+    return CHIP.kept_name(number, value)
 
 
-def word_name(kind, word):
+def word_name(kind: str, word: int) -> str:
     """A word of an argument by its name, or the number where it has none."""
     if kind in SETS:
         return set_name(kind, word)
@@ -410,7 +331,7 @@ def word_name(kind, word):
     return WORDS.get(kind, {}).get(word, str(word))
 
 
-def _numbers(kind):
+def _numbers(kind: str) -> dict[str, int]:
     """Of a kind of name: each name with its number."""
     if kind == "node":
         return {node.name: node.number for node in NODES.values()}
@@ -426,7 +347,7 @@ def _numbers(kind):
 _BY_NAME = {kind: _numbers(kind) for kind in ("node", "reset", "call", "clock", *WORDS)}
 
 
-def number_of(kind, name):
+def number_of(kind: str, name: str) -> Optional[int]:
     """The number that a name of a kind has, with or without a prefix; None where there is none."""
     if kind == "line":
         if name.startswith(PREFIXES["reset"]):
@@ -443,29 +364,51 @@ def number_of(kind, name):
     return None
 
 
-def written(kind, number):
+def written(kind: str, number: int) -> str:
     """A number as it is written beside its name: that of a function of PSCI in hexadecimal."""
     return f"{number:#x}" if kind == "function" else str(number)
 
 
-def lines():
-    """Each name with its kind and its number, and what else is known of it: a line each."""
+class Row(NamedTuple):
+    """A name with its number, and what else is known of it."""
+
+    kind: str  # one word
+    number: int
+    name: str
+    more: str  # with the comma or the colon before it
+
+    def __str__(self) -> str:
+        return f"{self.kind} {written(self.kind, self.number)} {self.name}{self.more}"
+
+
+def rows() -> Iterator[Row]:
+    """Each name with its kind and its number."""
     for node in NODES.values():
-        yield f"node {node.number} {node.name}" + ", not in the table of the chip" * (node.kind == "absent")
+        yield Row("node", node.number, node.name, ", not in the table of the chip" * (node.kind == "absent"))
     for number in RESETS:
-        yield f"line {number} {line_name(number)}, not in the table of the chip"
+        yield Row("line", number, line_name(number), ", not in the table of the chip")
     for kind, table in (("call", CALLS), ("callback", CALLBACKS)):
         for call in table.values():
             arguments = ", not served" if call.arguments is None else ": " * bool(call.arguments) + ", ".join(call.arguments)
-            yield f"{kind} {call.number} {call.name}{arguments}"
+            yield Row(kind, call.number, call.name, arguments)
     for number, clock in CLOCKS.items():
-        yield f"clock {number} {clock_name(number)}: " + (", ".join(map(clock_name, clock.parents)) or "a root")
-    for kind, table in WORDS.items():
-        for number, name in table.items():
-            yield f"{kind} {written(kind, number)} {name}"
+        yield Row("clock", number, clock_name(number), ": " + (", ".join(map(clock_name, clock.parents)) or "a root"))
+    for kind, words in WORDS.items():
+        for number, name in words.items():
+            yield Row(kind.replace(" ", "-"), number, name, "")
 
 
-def markdown():
+def lines() -> Iterator[str]:
+    """A line each."""
+    return map(str, rows())
+
+
+def in_json() -> list[dict[str, Any]]:
+    """Each name as keys and values."""
+    return [{**row._asdict(), "more": row.more.lstrip(",: ")} for row in rows()]
+
+
+def markdown() -> str:
     """The names that docs/FORMATS.md has: the clocks, and the words of arguments, records and statuses."""
     roots = ", ".join(f"{number} {clock_name(number)}" for number in CLOCKS if is_root(number))
     others = [number for number in CLOCKS if not is_root(number)]
@@ -475,16 +418,16 @@ def markdown():
     return "\n".join([_wrapped(clocks), "", *map(_wrapped, words)]) + "\n"
 
 
-def _wrapped(text):
+def _wrapped(text: str) -> str:
     """A paragraph, or an item of a list, in lines of the documents."""
     return textwrap.fill(text, 118, subsequent_indent="  " * text.startswith("- "))
 
 
-def main(words):
-    """`names`: each name, on a line of its own."""
-    if words:
-        raise BadUse("names takes no words: search what it writes")
-    print("".join(line + "\n" for line in lines()), end="")
+def main(words: list[str]) -> int:
+    """`names [--json]`: each name, on a line of its own."""
+    if words not in ([], ["--json"]):
+        raise BadUse("names takes no words but --json: search what it writes")
+    print(findings.in_json(in_json()) if words else "".join(line + "\n" for line in lines()), end="")
     return 0
 
 

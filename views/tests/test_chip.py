@@ -101,7 +101,7 @@ class Chip(Case):
         self.assertEqual((status, output), (8, b"fault text 1 1\n"), errors)
         self.assertIn(b"bad.topology:1: ", errors)
         with unittest.mock.patch.dict(os.environ, {"PMU_PROGRAM": ""}):
-            self.assertIn("this is no topology", self.refused("lint", path, example("two-masters.txt")))
+            self.assertIn("is the text of an object, and a script or the text of a topology is wanted", self.refused("lint", path, example("two-masters.txt")))
 
     def test_what_the_reach_of_the_program_lacks_is_said_beside_it(self):
         path = self.object_of(BY_LINE.format(line=1113))

@@ -144,7 +144,7 @@ class Text(Case):
         script = self.file("script", SCRIPT)
         for words in ([], ["a", "b"], ["a", "b", "c", "d", "e"]):
             self.assertEqual(self.refused("diff", *words), "pmu: usage: ./pmu diff OBJ SCRIPT NODE [TOPO]")
-        self.assertIn("No such file", self.refused("diff", example("laboratory.obj"), script + ".none", "1"))
+        self.assertEqual(view("diff", example("laboratory.obj"), script + ".none", "1")[:2], (4, b""))
         self.assertEqual(view("diff", example("laboratory.obj"), script, "8")[:2], (8, b"fault node\n"))
         self.assertEqual(view("diff", script, script, "1")[:2], (2, program("print", script)[1]))
         status, output, _ = view("diff", example("two-masters.obj"), self.file("bad", "ipi 1 21\nwhat\n"), "1")

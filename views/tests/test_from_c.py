@@ -48,7 +48,7 @@ class Example(Case):
 
     def test_the_example_has_each_node_and_each_reset_line(self):
         found = objects.load(example("pm_cfg_obj.obj"))
-        self.assertEqual([record.node for record in found.records("slave")], names.slaves())
+        self.assertEqual([record.node for record in found.records("slave")], [node.number for node in names.NODES.values() if node.kind == "slave"])
         self.assertEqual([record.line for record in found.records("reset")], list(range(1000, 1120)))
         self.assertEqual([len(found.records(kind)) for kind in ("master", "group", "power", "config", "gpo")], [3, 3, 4, 1, 1])
 

@@ -1,13 +1,17 @@
 """What `lint` says of an object, each check by an object that has what it looks for and by one that hasn't."""
 
+import json
 import os
 import re
+import struct
 import unittest
 import unittest.mock
 
 import lint
 import objects
 import program as programs
+import to_names
+import to_numbers
 from common import TOPOLOGIES, Case, example, examples, program, view
 from forms import FOUND
 
@@ -142,10 +146,12 @@ class Lint(Case):
         return self.file("made.obj", built)
 
     def split(self, path, text):
-        """Each line as its byte, its record, its message and its check."""
-        found = [re.fullmatch(re.escape(path) + r":(\d+): (.*?): (.*) \[(.*)\]", line) for line in text.splitlines()]
+        """Each line as its word, its record, its message and its check."""
+        found = [re.fullmatch(re.escape(path) + r": (.*?) \(word (\d+)\): (.*) \[(.*?)(, note)?\]", line) for line in text.splitlines()]
         self.assertNotIn(None, found, text)
-        return [(int(line[1]), line[2], line[3], line[4]) for line in found]
+        for line in found:
+            self.assertEqual(line[5] is not None, lint.CHECKS[line[4]].level == "note", line)
+        return [(int(line[2]), line[1], line[3], line[4]) for line in found]
 
     def test_each_check_finds_what_it_looks_for_and_nothing_else(self):
         self.assertEqual([*OBJECTS][1:], [*lint.CHECKS])
@@ -158,12 +164,36 @@ class Lint(Case):
                 if name in ("nothing", "no-flag", "forces-a-master"):
                     self.assertEqual(len(found), len(wanted), found)
 
-    def test_each_record_is_at_its_byte(self):
+    def test_each_record_is_at_its_word(self):
         for path in examples(".obj"):
             data = programs.read_file(path)
-            for byte, record, _, _ in self.split(path, self.text("lint", path)):
+            for place, record, _, _ in self.split(path, self.text("lint", path)):
                 words = objects.to_bytes(list(map(int, record.split()[1:])))
-                self.assertEqual(data[byte : byte + len(words)], words, (path, record))
+                self.assertEqual(data[4 * place : 4 * place + len(words)], words, (path, record))
+
+    def test_each_record_of_a_text_or_a_c_file_is_at_its_line(self):
+        c_file, text = self.file("bare.c", self.bare_c()), self.file("named.txt", self.named_text())
+        wanted = self.split(example("pm_cfg_obj.obj"), self.text("lint", example("pm_cfg_obj.obj")))
+        for path, first in ((c_file, "{}, "), (text, "{} ")):
+            with open(path, encoding="ascii") as file:
+                lines = file.read().splitlines()
+            found = [re.fullmatch(re.escape(path) + r":(\d+): (.*?): (.*) \[(.*?)(, note)?\]", line) for line in self.text("lint", path).splitlines()]
+            self.assertEqual([(line[2], line[3], line[4]) for line in found], [said[1:] for said in wanted])
+            for line in found:
+                kind, number = line[2].split()[:2]
+                self.assertTrue(lines[int(line[1]) - 1].startswith(first.format(number if path == c_file else kind)), (line, lines[int(line[1]) - 1]))
+
+    def bare_c(self):
+        """The C file of the example's object with the words of each record on a line of its own."""
+        words = list(map(str, struct.unpack("<535I", programs.read_file(example("pm_cfg_obj.obj")))))
+        starts = {record.offset // 4 for section in objects.read(example("pm_cfg_obj.obj")).sections for record in section.records}
+        return "u32 XPm_ConfigObject[] = {\n" + "".join(("\n" if place in starts else " ") + word + "," for place, word in enumerate(words)) + "\n};\n"
+
+    def named_text(self):
+        """The text of the example's object with names and comments."""
+        printed = program("print", example("pm_cfg_obj.obj"))[1].decode().splitlines()
+        masters = to_numbers.masters_of(printed)
+        return "# the example\n\n" + "".join(f"{to_names.line_in_names(line, masters)} # {line}\n" for line in printed)
 
     def test_the_records_of_the_example_that_the_table_lacks(self):
         path = next(path for path in examples(".obj") if path.endswith("pm_cfg_obj.obj"))
@@ -181,29 +211,78 @@ class Lint(Case):
     def test_the_exit(self):
         clean, full = self.object_of(TWO), self.file("full.obj", programs.read_file(examples("laboratory.obj")[0]))
         self.assertEqual([view("lint", clean)[0], view("lint", "--strict", clean)[0]], [0, 0])
-        self.assertEqual([view("lint", full)[0], view("lint", full, "--strict")[0]], [0, FOUND])
-        self.assertEqual(view("lint", full)[1], view("lint", "--strict", full)[1])
+        strange = self.object_of([*TWO, "section slaves", "slave 33 2 1"])
+        self.assertEqual([view("lint", strange)[0], view("lint", strange, "--strict")[0]], [0, FOUND])
+        self.assertEqual(view("lint", strange)[1], view("lint", "--strict", strange)[1])
+        self.assertEqual(view("lint", "--strict", "--ignore", "no-flag", strange), (0, b"", b""))
+        # (what each object of the tools has, and what a policy judges, is noted)
+        self.assertEqual(view("lint", full, "--strict")[:2], (0, self.written("lint", full)))
+        self.assertEqual(view("lint", "--strict", example("pm_cfg_obj.obj"))[0], 0)
+        self.assertEqual(view("lint", "--strict", example("pm_cfg_obj.obj"), os.path.join(TOPOLOGIES, "zynqmp.topology"))[0], FOUND)
+
+    def test_ignored_checks(self):
+        path = example("laboratory.obj")
+        self.assertEqual([self.text("lint", *words, path).count("\n") for words in ([], ["--ignore", "leads-to-all"])], [2, 1])
+        for words in (["--ignore", "leads-to-all,forces-a-master"], ["--ignore", "leads-to-all", "--ignore", "forces-a-master"]):
+            self.assertEqual(self.text("lint", *words, path), "")
+        self.assertIn("no check is named 'no-masters' (did you mean 'no-master'?): they are not-in-table, ", self.refused("lint", "--ignore", "no-masters", path))
+
+    def test_json(self):
+        path, script = example("laboratory.obj"), self.file("s", "wfi 99\n")
+        found = json.loads(self.text("lint", "--json", path, script))
+        self.assertEqual(
+            found[0],
+            {
+                "check": "forces-a-master",
+                "level": "note",
+                "file": path,
+                "word": 34,
+                "text": "power 10 256",
+                "message": "RPU_0 may force FPD down, and with it APU",
+            },
+        )
+        wanted = {"check": "no-effect", "level": "warning", "file": script, "line": 1, "text": "wfi 99", "message": "it does nothing: the chip has no node 99"}
+        self.assertEqual(found[-1], wanted)
+        self.assertEqual(len(found), len(self.text("lint", path, script).splitlines()))
+
+    def test_sarif(self):
+        path, script = example("laboratory.obj"), self.file("s", "wfi 99\n")
+        found = json.loads(self.text("lint", path, script, "--sarif"))
+        self.assertEqual((found["version"], found["$schema"]), ("2.1.0", "https://json.schemastore.org/sarif-2.1.0.json"))
+        run = found["runs"][0]
+        rules = [rule["id"] for rule in run["tool"]["driver"]["rules"]]
+        self.assertEqual((run["tool"]["driver"]["name"], rules), ("pmu lint", [*lint.RULES]))
+        places = [result["locations"][0]["physicalLocation"] for result in run["results"]]
+        self.assertEqual([place["artifactLocation"]["uri"] for place in places], [path, path, script])
+        self.assertEqual([place["region"] for place in places], [{"byteOffset": 136, "byteLength": 4}, {"byteOffset": 20, "byteLength": 4}, {"startLine": 1}])
+        self.assertEqual([(result["ruleId"], result["level"]) for result in run["results"]], [("forces-a-master", "note"), ("leads-to-all", "note"), ("no-effect", "warning")])
 
     def test_one_master_leads_to_nobody(self):
         lines = ["header", "section masters", "master 1 1 100 1 1", "section power", "power 10 1", "section shutdown", "shutdown 2 1"]
         self.assertEqual(self.text("lint", self.object_of(lines + ["section config", "config 1 1"])), "")
 
     def test_bad_use(self):
-        for words in ([], ["--strict"], ["a", "b", "c"], ["--strict", "--strict"], ["--strict", "a", "b", "c"], ["--what", "a"]):
-            self.assertEqual(self.refused("lint", *words), "pmu: usage: ./pmu lint [--strict] OBJ [TOPO]")
+        for words in ([], ["--strict"], ["a", "b", "c", "d"], ["--strict", "--strict", "a"], ["--json", "--sarif", "a"], ["--what", "a"], ["--ignore", "no-flag"]):
+            self.assertEqual(self.refused("lint", *words), f"pmu: {lint.USAGE}")
 
     def test_what_is_no_object_is_told(self):
         bad = self.file("bad.obj", objects.to_bytes([2, 1, 1, 0x101, 1, 1, 3, 100, 0, 0]))
         fault = "word 6: the mask 0x3 isn't one bit that no earlier master has (fault object 10 6)"
         self.assertEqual(self.refused("lint", bad), f"pmu: {bad}: {fault}")
-        for name in ("laboratory.txt", "pm_cfg_obj.c"):
-            self.assertIn(f"{name}: this is a text, and no object: ", self.refused("lint", example(name)))
+        rules = self.file("rules", "never APU\n")
+        self.assertIn(f"{rules}: this is a text, and no object: ", self.refused("lint", rules))
+        text = self.file("bad.txt", "header\nsection masters\nmaster 1 3 1 0 0\n")
+        said = f"{text}:3: the mask 0x3 of master 1 isn't one bit that no earlier master has\n"
+        self.assertEqual(view("lint", text)[::2], (8, said.encode()))
+        source = self.file("bad.c", "u32 XPm_ConfigObject[] = {\nNO };\n")
+        self.assertEqual(self.refused("lint", source), f"pmu: {source}:2: unknown name NO")
         self.assertIn("it ends after 0 words, in the middle of a section or of the header (fault object 3 0)", self.refused("lint", self.file("empty.obj", b"")))
-        self.assertIn("none: No such file", self.refused("lint", os.path.join(os.path.dirname(bad), "none")))
 
     def test_no_program_is_needed(self):
         with unittest.mock.patch.dict(os.environ, {"PMU_PROGRAM": ""}):
             self.assertEqual(len(self.text("lint", examples("laboratory.obj")[0]).splitlines()), 2)
+            self.assertEqual(view("lint", example("pm_cfg_obj.c"))[0], 0)
+            self.assertIn("this is the text of an object: ./pmu build makes", self.refused("lint", example("laboratory.txt")))
 
 
 if __name__ == "__main__":

@@ -1,5 +1,6 @@
 """The table of names is that of the chip and of the published interface, as the sources have them."""
 
+import json
 import os
 import re
 import unittest
@@ -63,9 +64,9 @@ class Chip(unittest.TestCase):
         self.assertEqual(len(ours), 6)
 
     def test_the_slaves_are_those_of_the_chip(self):
-        ours = {number: (parent_name(node), node.kind) for number, node in self.nodes(*names.STATES).items()}
+        ours = {number: parent_name(node) for number, node in self.nodes("slave").items()}
         chip = slaves_of_the_chip()
-        self.assertEqual(ours, {number: row[:2] for number, row in chip.items()})
+        self.assertEqual(ours, {number: row[0] for number, row in chip.items()})
         self.assertEqual(len(ours), 58)
         for number, (_, _, listed) in chip.items():
             name = names.NODES[number].name
@@ -86,16 +87,6 @@ class Chip(unittest.TestCase):
 
     def test_the_masters_are_those_of_the_chip(self):
         self.assertEqual(names.MASTERS, masters_of_the_chip())
-
-    def test_each_class_has_its_number_of_states_and_its_capabilities(self):
-        text = source("pm_chip/src/classes.rt")
-        constants = {name: int(value) for name, value in re.findall(r"const (\w+): Caps = Caps\((\d)\);", text)}
-        bodies = re.findall(r"fn (\w+)_states\(.*?let states = \[(.*?)\];", text, re.DOTALL)
-        self.assertEqual({name for name, _ in bodies}, set(names.STATES))
-        for name, body in bodies:
-            states = [constants[word] for word in re.findall(r"state\((\w+),", body)]
-            self.assertEqual(len(names.STATES[name]), len(states), name)
-            self.assertEqual(names.CLASS_CAPABILITIES[name], max(states), name)
 
     def test_what_is_published_and_not_in_the_table(self):
         self.assertEqual(sorted(self.nodes("absent")), list(range(70, 78)))
@@ -199,10 +190,16 @@ class View(Case):
             "callback 32 NOTIFY_CB: node, event, operating point",
             "clock 4 IOPLL: a root",
             "clock 15 TTC_1: TTC_0, IOPLL",
-            "abort reason 100 WKUP_EVENT",
+            "abort-reason 100 WKUP_EVENT",
             "status 2002 NO_ACCESS",
         ]:
             self.assertIn(line, lines)
+
+    def test_each_line_has_a_kind_of_one_word_a_number_and_a_name(self):
+        found = [re.fullmatch(r"([a-z-]+) (\d+|0x[0-9a-f]+) ([A-Z]\w*)(?:[,:] (.+))?", line) for line in self.text("names").splitlines()]
+        self.assertNotIn(None, found)
+        listed = json.loads(self.text("names", "--json"))
+        self.assertEqual([[it["kind"], it["number"], it["name"], it["more"]] for it in listed], [[line[1], int(line[2], 0), line[3], line[4] or ""] for line in found])
 
     def test_words_are_refused(self):
         self.assertIn("names takes no words", self.refused("names", "node"))
