@@ -147,7 +147,7 @@ class Names(Case):
 
     def test_a_late_reply_after_the_answer_to_another_message_of_a_line(self):
         script = "boot RPU_0 0\nipi APU REQUEST_SUSPEND RPU_0 BLOCKING 0 0\npost RPU_0 ABORT_SUSPEND 100 RPU_0\npost APU 1\n"
-        script += "post APU 1\nserve # both\npost RPU_1 1\nserve\n"
+        script += "post APU 1\nserve # both\npost RPU_1 1\n"
         self.check(
             ["replay", example("laboratory.obj"), self.file("boxes.script", script)],
             {

@@ -93,11 +93,12 @@ class Files(Case):
         self.assertEqual(view_of_input(read(example("laboratory.obj")), *words), (0, wanted, b""))
 
     def test_each_view_has_an_output(self):
-        path, lint = self.path("made"), self.written("lint", example("pm_cfg_obj.obj"))
-        self.assertEqual(view("lint", example("pm_cfg_obj.obj"), "-o", path), (0, b"", b""))
+        path, lint = self.path("made"), self.written("lint", example("laboratory.obj"))
+        self.assertEqual(view("lint", example("laboratory.obj"), "-o", path), (0, b"", b""))
         self.assertEqual(read(path), lint)
-        self.assertEqual(view("lint", example("pm_cfg_obj.obj"), "--strict", "-o", path), (FOUND, b"", b""))
-        self.assertEqual(read(path), lint)
+        script = self.file("script", "wfi 99\n")
+        self.assertEqual(view("lint", example("laboratory.obj"), script, "--strict", "-o", path), (FOUND, b"", b""))
+        self.assertEqual(read(path), lint + f"{script}:1: wfi 99: it does nothing: the chip has no node 99 [no-effect]\n".encode())
         rules = self.file("rules", "never APU slave UART_0\n")
         broken = view("policy", example("laboratory.obj"), rules)
         self.assertEqual(broken[0], BROKEN)
@@ -150,7 +151,7 @@ class Files(Case):
         self.assertIn("no such view", self.refused())
 
     def test_an_output_that_nobody_takes(self):
-        words = [sys.executable, os.path.join(VIEWS, "main.py"), "--names", "print", example("three-masters.obj")]
+        words = [sys.executable, os.path.join(VIEWS, "main.py"), "--names", "print", example("laboratory.obj")]
         with open("/dev/full", "wb") as full:
             ended = subprocess.run(words, stdout=full, stderr=subprocess.PIPE, check=False)
         self.assertEqual((ended.returncode, ended.stderr), (5, b"standard output can't be written: No space left on device\n"))
