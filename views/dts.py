@@ -17,7 +17,7 @@ import faults
 import names
 import objects
 import published
-import steps
+import replays
 from forms import FOUND
 from lines import count
 from program import BadUse, read_file, run_text, write_file
@@ -157,7 +157,7 @@ def answers_of(path: str, board: chips.Board, master: int, things: list[Thing], 
     for thing in sorted(things, key=lambda it: it.kind == "processor"):
         script += [thing.message(master), thing.undone(master)]
     file = os.path.join(room, f"script.{master}")
-    write_file(file, steps.content_of(script))
+    write_file(file, replays.content_of(script))
     answers = Answers({}, {})
     order = sorted(things, key=lambda it: it.kind == "processor")
     for line in run_text(["replay", path, file, *board.chip.words()]):

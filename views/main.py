@@ -36,6 +36,7 @@ VIEWS = {
     "import": "import_log",
     "test": "testing",
     "dts": "dts",
+    "report": "report",
 }
 
 # The exit of a view that is interrupted.

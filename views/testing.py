@@ -14,12 +14,12 @@ import chip as chips
 import expectations
 import faults
 import judged
-import steps
 import to_names
 import to_numbers
 from forms import NOT_JUDGED, UNEXPECTED
 from lines import count
-from program import BadUse, Failed, read_file, run_text, write_file
+from program import BadUse, Failed, read_file
+from replays import Run, content_of, script_lines
 from target import Target
 from told import in_one_line, tell
 
@@ -56,16 +56,9 @@ class Outcome(NamedTuple):
         return f"{self.name}: {wanted} met" if not self.differences else f"{self.name}: {met} of {wanted} met"
 
 
-def replayed(obj: str, script: list[str], name: str, topology: list[str], room: str) -> list[str]:
-    """The lines of the replay of a script in numbers."""
-    path = os.path.join(room, "script")
-    write_file(path, steps.content_of(script))
-    return run_text(["replay", obj, path, *topology], ["replay", obj, name, *topology])
-
-
 def expected_of(content: bytes, script: list[str], path: str) -> list[expectations.Clause]:
     """What is expected of a script: by its comments, and by the file beside it."""
-    found = expectations.in_comments(steps.script_lines(content), faults.name_of(path))
+    found = expectations.in_comments(script_lines(content), faults.name_of(path))
     beside = path + ".expect"
     if os.path.exists(beside):
         found += expectations.in_file(read_file(beside), faults.name_of(beside), len(script))
@@ -78,16 +71,16 @@ def told(clause: expectations.Clause, instead: str, script: list[str]) -> str:
     return f"{clause.place}: expected {clause.text}, and {instead}: {of_line}"
 
 
-def outcome(obj: str, path: str, chip: chips.Chip, room: str) -> Outcome:
-    """Runs a script, and judges the run."""
+def outcome(over: Run, path: str) -> Outcome:
+    """Runs a script over an object and a chip, and judges the run."""
     name, content = faults.name_of(path), read_file(path)
-    script = steps.script_lines(to_numbers.in_numbers(content, path))
-    clauses, topology = expected_of(content, script, path), chip.words()
+    script = script_lines(to_numbers.in_numbers(content, path))
+    clauses = expected_of(content, script, path)
     try:
-        written = replayed(obj, script, path, topology, room)
+        written = over.lines_of(content_of(script), path)
     except Failed as failed:
         return Outcome(name, [], failed)
-    run = judged.Run(chip, script, written, lambda step: replayed(obj, script[:step], path, topology, room))
+    run = judged.Run(over.chip, script, written, lambda step: over.lines_of(content_of(script[:step]), path))
     run.tables[len(script)] = judged.table_of(written)
     judgements = [(clause, judged.difference(run, clause)) for clause in clauses]
     return Outcome(name, [(clause, instead and told(clause, instead, script)) for clause, instead in judgements])
@@ -164,7 +157,7 @@ def main(words: list[str]) -> int:
     target = Target(given["--junit"]) if "--junit" in given else None
     try:
         with tempfile.TemporaryDirectory() as room:
-            outcomes = [outcome(obj, path, chip, room) for path in scripts]
+            outcomes = [outcome(Run(obj, chip, room), path) for path in scripts]
         if target:
             target.put(as_junit(outcomes, faults.name_of(obj)).encode("utf-8", "replace"))
     finally:

@@ -29,6 +29,7 @@ Views of what it reads and writes, in other ways:
        ./pmu import LOG                 the calls of a board's log as a script, with the answers that the log has
        ./pmu test OBJ SCRIPT..          judges runs by what is expected in comments or SCRIPT.expect; exit 104 if one differs
        ./pmu dts OBJ TREE [TOPO]        what Linux asks for by a device tree, and what is refused; exit 102 if anything is
+       ./pmu report OBJ [SCRIPT] -o FILE.html    a page of who can reach whom, the script's wave, and each line in names
        ./pmu names                      the names of nodes, reset lines, calls, clocks and words, with their numbers
 docs/VIEWS.md and docs/OBJECTS.md explain them. Nothing is proved of them.
 

@@ -39,10 +39,11 @@ class Judged(Case):
     def fault(self, path):
         """What is wrong with the expectations of a script."""
         import chip
+        import replays
         import testing
 
         with tempfile.TemporaryDirectory() as room, self.assertRaises(Exception) as raised:
-            testing.outcome(LABORATORY, path, chip.read(), room)
+            testing.outcome(replays.Run(LABORATORY, chip.read(), room), path)
         self.assertEqual(raised.exception.status, 125)
         return str(raised.exception)
 
