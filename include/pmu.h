@@ -30,6 +30,13 @@
 #include <stddef.h>
 #include <stdint.h>
 
+/* The version of this interface. While the first number is 0 another second one may change what is here; from 1 on a
+ * program that is built for one version runs with each later one of the same first number. */
+#define PMU_VERSION_MAJOR 0
+#define PMU_VERSION_MINOR 1
+#define PMU_VERSION_PATCH 0
+#define PMU_VERSION (PMU_VERSION_MAJOR * 10000 + PMU_VERSION_MINOR * 100 + PMU_VERSION_PATCH)
+
 #ifdef __cplusplus
 extern "C" {
 #endif

@@ -2,8 +2,14 @@
 
 Runs the program with these words, in the caller's folder and with its exit status. Of the words, `-o FILE` has the
 output go to FILE, and a file `-` is standard input. If the exit isn't 0, a line on standard error says what is wrong.
-Words that have no form are refused here; if PROGRAM is empty nothing else is done. The program has the caller's own input and output, so that a large run takes no longer for it.
+Words that have no form are refused here; if PROGRAM is empty nothing else is done. The program has the caller's own
+input and output, so that a large run takes no longer for it.
 """
+import oldest
+
+oldest.check()
+
+# pylint: disable=wrong-import-position
 import os
 import signal
 import stat

@@ -13,6 +13,8 @@ usage: ./pmu replay OBJ SCRIPT   runs the script of the file SCRIPT over the con
        ./pmu --prove             proves and builds the program, and shows how long that takes here
        ./pmu --proved WORDS..    answers by the proved program alone
        ./pmu --program           writes the path of the program that answers, which is made if there is none
+       ./pmu --install PREFIX    puts the proved program, the library, its headers and manual pages below a folder
+       ./pmu --uninstall PREFIX  removes what was put there
        ./pmu --help, ./pmu -h    writes this help; behind the first word of a form, that of the form
        ./pmu --version, ./pmu -V    writes which toolchain and which commit this is, and whether it is proved
 
@@ -44,7 +46,7 @@ exit   0 all was written                  7 the script is too long
        1 no such form of words            8 a bad text, topology, master or number
        2 a bad object                     101 policy: a rule is broken
        3 a bad line of the script         102 lint --strict, dts: something was found
-       4 an input can't be read           103 policy: a record gives something that wasn't judged
+       4 an input can't be read           103 policy: a record gives something that wasn't judged; test: nothing is expected
        5 the output can't be written      125 there is no program, or a view can't do what its words ask for
        6 want of memory                   104 test: a run differs from what is expected
        A line on standard error says what is wrong and in which file and line. docs/FORMATS.md has more.
@@ -70,8 +72,9 @@ help_of() {
         /^$/ { exits = 0 }'
 }
 
-# The words of `--version`.
+# The words of `--version`; an installed copy has kept those of the checkout that it is of.
 version() {
+    if [ -f "$top/version" ]; then cat "$top/version"; return; fi
     if command -v rt >/dev/null; then rt version || exit 125; else echo "no toolchain: rt isn't in the path"; fi
     if [ -e "$top/.git" ] && commit=$(git -C "$top" rev-parse HEAD 2>/dev/null); then
         changes=''

@@ -4,7 +4,7 @@ import time
 import unittest
 from concurrent.futures import ThreadPoolExecutor
 
-from common import COMPILES, NOTICE, PROGRAMS, TOP, Tree, read, run
+from common import COMPARES, EXAMPLE, NOTICE, PROGRAMS, READS, TOP, Tree, read, run
 
 
 def calls_of_cases():
@@ -30,13 +30,15 @@ def calls_of_examples():
 class Compiled(Tree):
     """The program that the toolchain compiles of the sources."""
 
-    LEFT_OUT = ["out", ".git", "must-fail", "cases", "__pycache__"]
+    LEFT_OUT = ["out", ".git", "must-fail", "more-edits", "__pycache__"]
 
     def test_it_answers_as_the_proved_one_does(self):
         self.environment["PATH"] = os.environ["PATH"]
         begun = time.monotonic()
-        self.answers(WhichProgram.COMPILES, NOTICE)
+        status, out, said = self.call(*EXAMPLE)
         print(f"(the first answer took {time.monotonic() - begun:.0f} seconds)", flush=True)
+        self.assertEqual((status, out), run([PROGRAMS[0], *EXAMPLE], self.top))
+        self.assertTrue(said.startswith(READS) and said.endswith(COMPARES + NOTICE), said)
         self.answers(NOTICE)
         (name,) = self.kept("unproved")
 
@@ -45,8 +47,7 @@ class Compiled(Tree):
             runs = [run([program, *words], folder) for program in (f"{self.top}/out/{name}", *PROGRAMS)]
             return any(it != runs[0] for it in runs)
 
-        # (before its proof the program takes half an hour for the most lines that can be made)
-        calls = [it for it in (*calls_of_cases(), *calls_of_examples()) if [*it[1]] != [b"make", b"200000"]]
+        calls = [*calls_of_cases(), *calls_of_examples()]
         with ThreadPoolExecutor(os.cpu_count()) as pool:
             differ = [words for (_, words), it in zip(calls, pool.map(differs, calls)) if it]
         self.assertEqual(differ, [])

@@ -2,6 +2,7 @@
 import os
 import shutil
 import subprocess
+import sys
 import unittest
 
 from common import PROGRAMS, TOP, Named, Tree, read, run
@@ -88,6 +89,14 @@ class Help(Named):
             status, out, said = self.call(*words)
             self.assertEqual((status, out, said.count("\n")), (1, b"", 1), words)
             self.assertEqual(run([PROGRAMS[0], *words], self.folder), (1, b"fault usage\n"))
+
+
+class Python(Named):
+    def test_a_python_that_is_too_old_is_told(self):
+        script = "import runpy, sys; sys.version_info = (3, 8, 0); sys.path.insert(0, sys.argv[1]); runpy.run_path(sys.argv[1] + '/run.py', run_name='__main__')"
+        ran = subprocess.run([sys.executable, "-BS", "-c", script, f"{TOP}/views"], stdin=subprocess.DEVNULL, capture_output=True, check=False)
+        self.assertEqual((ran.returncode, ran.stdout), (125, b""))
+        self.assertEqual(ran.stderr, b"pmu: this is Python 3.8, and the views want 3.9 or a newer one\n")
 
 
 class ClosedPipe(Named):
