@@ -1,7 +1,8 @@
 //! The program `pmu`, over the files and the standard output of the host and a device in memory.
 #![tactic(auto)]
 
-ghost use Rattle.std.specs.Prelude.{◌≡◌, ℕ, [], IfOk, None, Option, Some, map, string_bytes};
+ghost use Rattle.std.specs.Prelude.{◌≡◌, ℕ, [], IfOk, MatchResult, None, Option, Some, map, string_bytes};
+ghost use Rattle.std.specs.Process.{exit_status};
 ghost use Rattle.pm_chip.specs.Chip.{chip};
 ghost use Rattle.pm_device.specs.Fresh.{IsFresh};
 ghost use Rattle.pm_device.specs.Model.{moment_of};
@@ -11,6 +12,7 @@ ghost use Rattle.pm_top.specs.Ran.{IsBeforeRun};
 ghost use Rattle.pm_modules.specs.Modules.{ranges};
 ghost use Rattle.pm_tasks.specs.Stored.{timetable};
 ghost use Rattle.pm_cli.specs.Brought.{AreTwoCounters, programs_modules};
+ghost use Rattle.pm_cli.specs.Ended.{AreWordsOf, HasEnded, HasRun, HasRunGiven, MayRun, ProcessEnds, code_of};
 ghost use Rattle.pm_cli.specs.Logged.{IsLogOfRun, IsSafeLog};
 
 mod brought;
@@ -30,25 +32,59 @@ use std::rt::{Env, Files};
 use std::{env, io};
 
 fn main(rt: HostRuntime) -> ExitCode {
-    ExitCode::from(run(&rt) as u8)
+    end(&rt, words(&rt))
 }
 
-/// Runs the words that the program was called with.
-fn run<R: Env + Files + Print + AllocGlobal>(rt: &R) -> Exit {
-    let words = match words(rt) {
-        Ok(words) => words,
-        // Words that are no text have no form.
-        Err(error) if error.kind() == io::ErrorKind::InvalidData => Vec::new(rt.alloc()),
-        Err(_) => return Exit::Memory,
-    };
-    match run_words(rt, words.as_slice()) {
+/// Runs the words that the host gave. The process ends with the number of the exit.
+fn end<R: Files + Print + AllocGlobal>(rt: &R, words: io::Result<Vec<String>>) -> ExitCode
+    ensures { ProcessEnds words (exit_status result) }
+{
+    ExitCode::from(code_of(run(rt, words)))
+}
+
+/// The number that the process ends with.
+fn code_of(exit: Exit) -> u8
+    ensures { result ≡ code_of exit }
+{
+    exit as u8
+}
+
+/// Runs these words, or ends for want of memory.
+fn run<R: Files + Print + AllocGlobal>(rt: &R, words: io::Result<Vec<String>>) -> Exit
+    ensures { MayRun words result }
+{
+    match run_given(rt, words) {
         Ok(exit) => exit,
         Err(NoMemory) => Exit::Memory,
     }
 }
 
-/// Runs these words over a new device, with the modules and the timed tasks of the program.
-fn run_words<R: Files + Print + AllocGlobal>(rt: &R, words: &[String]) -> Result<Exit, NoMemory> {
+/// Runs them where there is memory.
+fn run_given<R: Files + Print + AllocGlobal>(
+    rt: &R,
+    words: io::Result<Vec<String>>,
+) -> Result<Exit, NoMemory>
+    ensures { IfOk result (HasRunGiven words) }
+{
+    let words = texts(rt.alloc(), words)?;
+    run_words(rt, words.as_slice())
+}
+
+/// The words as texts. Words that are no text have no form, and are as no words.
+fn texts(alloc: Global, words: io::Result<Vec<String>>) -> Result<Vec<String>, NoMemory>
+    ensures { IfOk result (λ texts. AreWordsOf words (map string_bytes texts.items)) }
+{
+    match words {
+        Ok(words) => Ok(words),
+        Err(error) if error.kind() == io::ErrorKind::InvalidData => Ok(Vec::new(alloc)),
+        Err(_) => Err(NoMemory),
+    }
+}
+
+/// Runs these words over a new device.
+fn run_words<R: Files + Print + AllocGlobal>(rt: &R, words: &[String]) -> Result<Exit, NoMemory>
+    ensures { IfOk result (HasRun (map string_bytes words.now)) }
+{
     let mut device = device(rt.alloc())?;
     run_over(rt, words, &mut device)
 }
@@ -61,6 +97,8 @@ fn run_over<R: Files + Print + AllocGlobal>(
 ) -> Result<Exit, NoMemory>
     requires fresh { IsFresh chip (moment_of device.old) }
     requires log { device.old.log ≡ [] }
+    ensures { MatchResult result (λ exit. HasEnded (map string_bytes words.now) exit device.old device.new)
+        (λ _. device.old ≡ device.new) }
 {
     let alloc = rt.alloc();
     let echo = boxed(alloc, Echo)?;
@@ -79,6 +117,8 @@ fn run_with<R: Files + Print + AllocGlobal>(
     requires fresh { IsFresh chip (moment_of device.old) }
     requires log { device.old.log ≡ [] }
     requires modules { ranges ⟦<Box<dyn Responder> as Responder>⟧ modules.now ≡ programs_modules }
+    ensures { MatchResult result (λ exit. HasEnded (map string_bytes words.now) exit device.old device.new)
+        (λ _. device.old ≡ device.new) }
 {
     let alloc = rt.alloc();
     let first = boxed(alloc, Counter { calls: 0 })?;

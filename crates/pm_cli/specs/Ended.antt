@@ -1,0 +1,72 @@
+-- What a run of the program came to, down to the number that its process ends with.
+use Rattle.std.specs.Prelude.{◌≡◌, ◌⊎◌, ℕ, List, [], Option, Some, None, Result, Ok, Err, String, Vec, map, string_bytes}
+use Rattle.std.specs.declared.alloc.Global.{Global}
+use Rattle.std.specs.declared.io.Error.{Error}
+use Rattle.std.specs.declared.io.ErrorKind.TheVariants.{InvalidData}
+use Rattle.std.specs.IoError.{error_kind}
+use Rattle.pm_base.specs.declared.errors.Exit.{Exit}
+use Rattle.pm_base.specs.declared.errors.Exit.TheVariants as exit
+use Rattle.pm_chip.specs.Chip.{chip}
+use Rattle.pm_device.specs.Fresh.{IsFresh}
+use Rattle.pm_device.specs.Model.{Bench, moment_of}
+use Rattle.pm_top.specs.declared.works.Work.TheVariants.{Replay}
+use Rattle.pm_top.specs.Form.{form, over, request_of, topology_in}
+use Rattle.pm_top.specs.Ran.{IsBeforeRun}
+use Rattle.pm_cli.specs.Logged.{IsLogOfRun, IsSafeLog}
+
+-- a run of these words ended with this exit, and left its device so
+pub record HasEnded (ws : List (List ℕ)) (result : Exit) (old new : Bench) : Type 0 where
+  -- Usage comes only where the words have no form
+  pub usage : result ≡ exit.Usage → form ws ≡ None
+  -- before a script is run nothing is done to the device
+  pub untouched : IsBeforeRun (form ws) result → old ≡ new
+  -- whatever becomes of the run, nothing is used without power, and no domain goes down under its users
+  pub safe : IsSafeLog (topology_in ws) new.log
+  -- where `replay` is done, the acts on the device are those of the whole run of a script, after a fit to the topology that the
+  -- words name, if they do
+  pub driven : (named : Option ℕ) → result ≡ exit.Done → request_of ws ≡ Some (over named Replay) → IsLogOfRun named new.log
+
+-- these words were run over a device of the chip on which nothing had been done, and all of whose units stood at 0
+pub record HasRun (ws : List (List ℕ)) (result : Exit) : Type 0 where
+  pub old : Bench
+  pub new : Bench
+  pub fresh : IsFresh chip (moment_of old)
+  pub empty : old.log ≡ []
+  pub ended : HasEnded ws result old new
+
+-- the words that the host gave
+abbrev pub GivenWords : Type 0
+GivenWords = Result (Vec (String Global) Global) Error
+
+-- they are these texts: none where they are no text
+abbrev pub AreWordsOf : GivenWords → List (List ℕ) → Type 0
+AreWordsOf (Ok words) ws = ws ≡ map string_bytes words.items
+AreWordsOf (Err error) ws = (error_kind error ≡ InvalidData) × (ws ≡ [])
+
+-- they were run
+pub record HasRunGiven (given : GivenWords) (result : Exit) : Type 0 where
+  pub ws : List (List ℕ)
+  pub are : AreWordsOf given ws
+  pub run : HasRun ws result
+
+-- they were run, or memory was wanted before
+abbrev pub MayRun : GivenWords → Exit → Type 0
+MayRun given result = (result ≡ exit.Memory) ⊎ HasRunGiven given result
+
+-- the number that a process ends with
+abbrev pub code_of : Exit → ℕ
+code_of exit.Done = 0
+code_of exit.Usage = 1
+code_of exit.BadObject = 2
+code_of exit.BadLine = 3
+code_of exit.ReadFault = 4
+code_of exit.WriteFault = 5
+code_of exit.Memory = 6
+code_of exit.TooLarge = 7
+code_of exit.BadText = 8
+
+-- a process ends with this number: that of the exit of a run of the words that the host gave
+pub record ProcessEnds (given : GivenWords) (status : ℕ) : Type 0 where
+  pub result : Exit
+  pub run : MayRun given result
+  pub is : status ≡ code_of result
