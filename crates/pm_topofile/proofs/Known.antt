@@ -95,7 +95,7 @@ form_known keywords.State words item is = state_known _ _ _ _ item (λ n found. 
 form_known keywords.Line words item is = line_known _ _ item is
 form_known keywords.Owner words item is = owner_known _ _ item is
 
-if_some : {X : Type 0} (b : Bool) (o : Option X) (x : X) → cond b o None ≡ Some x → o ≡ Some x
+pub if_some : {X : Type 0} (b : Bool) (o : Option X) (x : X) → cond b o None ≡ Some x → o ≡ Some x
 if_some true o x is = is
 if_some false o x is = cc
 
@@ -140,7 +140,7 @@ placed_known (State s) t u item known is = same_known _ u (state_taken s t.slave
 placed_known (Line l) t u item known is = same_known _ u known is
 placed_known (Owner node procs) t u item known is = same_known _ u known is
 
-if_ok : {X E : Type 0} (b : Bool) (r : Result X E) (e : E) (x : X) → cond b r (Err e) ≡ Ok x → r ≡ Ok x
+pub if_ok : {X E : Type 0} (b : Bool) (r : Result X E) (e : E) (x : X) → cond b r (Err e) ≡ Ok x → r ≡ Ok x
 if_ok true r e x is = is
 if_ok false r e x is = cc
 
@@ -148,7 +148,7 @@ taken_known : (item : Item) (t u : Topology) → IsKnown item → AreKnown t.sla
 unfolding taken
 taken_known item t u item_is known is = placed_known item t u item_is known (if_ok (stands item t) (placed item t) _ u is)
 
-good_line : (n : ℕ) (r : Result Topology TopoTextCause) (u : Topology) → at_line n r ≡ Ok u → r ≡ Ok u
+pub good_line : (n : ℕ) (r : Result Topology TopoTextCause) (u : Topology) → at_line n r ≡ Ok u → r ≡ Ok u
 good_line n (Ok t) u is = cc
 good_line n (Err cause) u is = cc
 
@@ -161,7 +161,7 @@ line_taken_known n text t u known is = at (item_of text) refl (good_line n (item
     at (Some item) said is = taken_known item t u (item_known text item said) known is
 
 -- what came before is there
-good_before : (r : Result Topology TopologyError) (after : Topology → Result Topology TopologyError) (u : Topology) → unless_bad r after ≡ Ok u → (t : Topology) × (r ≡ Ok t) × (after t ≡ Ok u)
+pub good_before : (r : Result Topology TopologyError) (after : Topology → Result Topology TopologyError) (u : Topology) → unless_bad r after ≡ Ok u → (t : Topology) × (r ≡ Ok t) × (after t ≡ Ok u)
 good_before (Ok t) after u is = (t, refl, is)
 good_before (Err fault) after u is = cc
 
@@ -180,7 +180,7 @@ known_caps : (t : Topology) → AreKnown t.slaves → HasKnownCaps t
 known_caps t known k s here j e there =
     each_at (λ (e : SlaveState). e.caps.0 < 8) s.states j e (each_at (λ (s : SlaveDef). AllByRecursion (λ (e : SlaveState). e.caps.0 < 8) s.states) t.slaves k s known here) there
 
-unbroken : (fault : Option TopoFault) (t u : Topology) → unless_broken fault t ≡ Ok u → (fault ≡ None) × (t ≡ u)
+pub unbroken : (fault : Option TopoFault) (t u : Topology) → unless_broken fault t ≡ Ok u → (fault ≡ None) × (t ≡ u)
 unbroken None t u is = (refl, cc)
 unbroken (Some fault) t u is = cc
 

@@ -5,6 +5,10 @@ pub mod Leads
 pub mod Lengths
 pub mod LineTexts
 pub mod LinesLemmas
+pub mod MeansFound
+pub mod MeansLaw
+pub mod MeansLines
+pub mod MeansOnly
 pub mod Members
 pub mod Owners
 pub mod Printed

@@ -35,7 +35,7 @@ at_seam front x back whole is =
     let at : length front + 0 ≡ length front = omega arith in
     subst (λ xs. slice_get xs (length front) ≡ Some x) is (subst (λ k. slice_get (front ++ x ∷ back) k ≡ Some x) at here)
 
-first_passing : {X : Type 0} (p : X → Bool) (xs : List X) (w : ℕ) (q : X) → slice_get xs w ≡ Some q → p q ≡ true → ((k : ℕ) (x : X) → k < w → slice_get xs k ≡ Some x → p x ≡ false) → position_or_len p xs ≡ w
+pub first_passing : {X : Type 0} (p : X → Bool) (xs : List X) (w : ℕ) (q : X) → slice_get xs w ≡ Some q → p q ≡ true → ((k : ℕ) (x : X) → k < w → slice_get xs k ≡ Some x → p x ≡ false) → position_or_len p xs ≡ w
 first_passing p [] w q here passes others = cc
 first_passing {X} p (x ∷ xs) zero q here passes others =
     let same : p x ≡ true = cc in
@@ -52,12 +52,12 @@ placed_at powers w q distinct here =
     let within : w < length powers = slice_get_within powers w q here in
     rw at (grind (arith, nat_tests))
 
-front_distinct : {X : Type 0} (number : X → ℕ) (front back whole : List X) → front ++ back ≡ whole → AreDistinct number whole → AreDistinct number front
+pub front_distinct : {X : Type 0} (number : X → ℕ) (front back whole : List X) → front ++ back ≡ whole → AreDistinct number whole → AreDistinct number front
 front_distinct number front back whole is distinct j k x y here there same =
     distinct j k x y (subst (λ xs. slice_get xs j ≡ Some x) is (slice_get-append_left front back j x here)) (subst (λ xs. slice_get xs k ≡ Some y) is (slice_get-append_left front back k y there)) same
 
 -- an entry of a front of a list, by its place
-in_front : {X : Type 0} (front back whole : List X) (w : ℕ) → front ++ back ≡ whole → w < length front → (x : X) × (slice_get front w ≡ Some x) × (slice_get whole w ≡ Some x)
+pub in_front : {X : Type 0} (front back whole : List X) (w : ℕ) → front ++ back ≡ whole → w < length front → (x : X) × (slice_get front w ≡ Some x) × (slice_get whole w ≡ Some x)
 in_front {X} front back whole w is within =
     elim ((slice_get_cases front w).1) [
       | inl there ↦ (there.0, there.2, subst (λ xs. slice_get xs w ≡ Some there.0) is (slice_get-append_left front back w there.0 there.2))
@@ -82,10 +82,10 @@ named_parent front back powers (Some w) is distinct early =
     let found = placed_at front w q.0 (front_distinct (λ (p : PowerDef). p.node.0) front back powers is distinct) q.1 in
     (Some q.0.node, record { number = rw q.2 refl; place = rw found refl })
 
-abbrev with_powers : List PowerDef → Topology
+abbrev pub with_powers : List PowerDef → Topology
 with_powers front = record { slaves = []; procs = []; powers = front; lines = []; masters = [] }
 
-takes_power : (front : List PowerDef) (p : PowerDef) (named : Option NodeId) → optional_place named front ≡ Some p.parent → taken (Power (record { node = p.node; parent = named; held = p.held; figure = p.figure; latency = p.latency })) (with_powers front) ≡ Ok (with_powers (front ++ p ∷ []))
+pub takes_power : (front : List PowerDef) (p : PowerDef) (named : Option NodeId) → optional_place named front ≡ Some p.parent → taken (Power (record { node = p.node; parent = named; held = p.held; figure = p.figure; latency = p.latency })) (with_powers front) ≡ Ok (with_powers (front ++ p ∷ []))
 unfolding taken
 takes_power front p named place = rw place refl
 
@@ -99,20 +99,20 @@ lead_power powers front back p distinct is early small rest =
 
 -- ---- processors
 
-abbrev with_procs : List PowerDef → List ProcDef → Topology
+abbrev pub with_procs : List PowerDef → List ProcDef → Topology
 with_procs powers front = record { slaves = []; procs = front; powers = powers; lines = []; masters = [] }
 
 -- the power node at a place, as lines name it
-record IsParent (powers : List PowerDef) (place : ℕ) (node : NodeId) : Type 0 where
+pub record IsParent (powers : List PowerDef) (place : ℕ) (node : NodeId) : Type 0 where
   pub number : power_at powers place ≡ Some node.0
   pub found : place_of node powers ≡ Some place
 
-parent_of : (powers : List PowerDef) (place : ℕ) → AreDistinct (λ (p : PowerDef). p.node.0) powers → place < length powers → (node : NodeId) × IsParent powers place node
+pub parent_of : (powers : List PowerDef) (place : ℕ) → AreDistinct (λ (p : PowerDef). p.node.0) powers → place < length powers → (node : NodeId) × IsParent powers place node
 parent_of powers place distinct within =
     let q = in_front powers [] powers place (append-nil powers) within in
     (q.0.node, record { number = rw q.1 refl; found = placed_at powers place q.0 distinct q.1 })
 
-takes_proc : (powers : List PowerDef) (front : List ProcDef) (p : ProcDef) (node : NodeId) → place_of node powers ≡ Some p.parent → taken (Proc (record { node = p.node; parent = node; figure = p.figure; latency = p.latency })) (with_procs powers front) ≡ Ok (with_procs powers (front ++ p ∷ []))
+pub takes_proc : (powers : List PowerDef) (front : List ProcDef) (p : ProcDef) (node : NodeId) → place_of node powers ≡ Some p.parent → taken (Proc (record { node = p.node; parent = node; figure = p.figure; latency = p.latency })) (with_procs powers front) ≡ Ok (with_procs powers (front ++ p ∷ []))
 unfolding taken
 takes_proc powers front p node place = rw place refl
 
@@ -126,17 +126,17 @@ lead_proc powers front p distinct within small rest =
 
 -- ---- slaves and their states
 
-abbrev with_slaves : List PowerDef → List ProcDef → List SlaveDef → Topology
+abbrev pub with_slaves : List PowerDef → List ProcDef → List SlaveDef → Topology
 with_slaves powers procs front = record { slaves = front; procs = procs; powers = powers; lines = []; masters = [] }
 
-abbrev with_states : SlaveDef → List SlaveState → SlaveDef
+abbrev pub with_states : SlaveDef → List SlaveState → SlaveDef
 with_states s states = record { node = s.node; parent = s.parent; states = states }
 
-takes_slave : (powers : List PowerDef) (procs : List ProcDef) (front : List SlaveDef) (s : SlaveDef) (node : NodeId) → place_of node powers ≡ Some s.parent → taken (Slave (record { node = s.node; parent = node })) (with_slaves powers procs front) ≡ Ok (with_slaves powers procs (front ++ with_states s [] ∷ []))
+pub takes_slave : (powers : List PowerDef) (procs : List ProcDef) (front : List SlaveDef) (s : SlaveDef) (node : NodeId) → place_of node powers ≡ Some s.parent → taken (Slave (record { node = s.node; parent = node })) (with_slaves powers procs front) ≡ Ok (with_slaves powers procs (front ++ with_states s [] ∷ []))
 unfolding taken
 takes_slave powers procs front s node place = rw place refl
 
-takes_state : (powers : List PowerDef) (procs : List ProcDef) (front : List SlaveDef) (s : SlaveDef) (states : List SlaveState) (state : SlaveState) → taken (State state) (with_slaves powers procs (front ++ with_states s states ∷ [])) ≡ Ok (with_slaves powers procs (front ++ with_states s (states ++ state ∷ []) ∷ []))
+pub takes_state : (powers : List PowerDef) (procs : List ProcDef) (front : List SlaveDef) (s : SlaveDef) (states : List SlaveState) (state : SlaveState) → taken (State state) (with_slaves powers procs (front ++ with_states s states ∷ [])) ≡ Ok (with_slaves powers procs (front ++ with_states s (states ++ state ∷ []) ∷ []))
 unfolding taken
 takes_state powers procs front s states state =
     let some : eqb (length (front ++ with_states s states ∷ [])) 0 ≡ false = let long = length-append front (with_states s states ∷ []) in grind (arith, nat_tests) in
@@ -172,10 +172,10 @@ lead_slave powers procs front s distinct within caps small rest =
 
 -- ---- reset lines
 
-abbrev with_lines : List PowerDef → List ProcDef → List SlaveDef → List LineDef → Topology
+abbrev pub with_lines : List PowerDef → List ProcDef → List SlaveDef → List LineDef → Topology
 with_lines powers procs slaves front = record { slaves = slaves; procs = procs; powers = powers; lines = front; masters = [] }
 
-takes_line : (powers : List PowerDef) (procs : List ProcDef) (slaves : List SlaveDef) (front : List LineDef) (l : LineDef) → taken (Line l) (with_lines powers procs slaves front) ≡ Ok (with_lines powers procs slaves (front ++ l ∷ []))
+pub takes_line : (powers : List PowerDef) (procs : List ProcDef) (slaves : List SlaveDef) (front : List LineDef) (l : LineDef) → taken (Line l) (with_lines powers procs slaves front) ≡ Ok (with_lines powers procs slaves (front ++ l ∷ []))
 unfolding taken
 takes_line powers procs slaves front l = refl
 
@@ -187,22 +187,22 @@ lead_line powers procs slaves front l small rest =
 
 -- ---- masters
 
-abbrev with_masters : Topology → List MasterDef → Topology
+abbrev pub with_masters : Topology → List MasterDef → Topology
 with_masters t front = record { slaves = t.slaves; procs = t.procs; powers = t.powers; lines = t.lines; masters = front }
 
-abbrev master : NodeId → List NodeId → MasterDef
+abbrev pub master : NodeId → List NodeId → MasterDef
 master node procs = record { node = node; procs = procs }
 
-with_members-new : (node : NodeId) (procs : List NodeId) (front : List MasterDef) → ((k : ℕ) (m : MasterDef) → slice_get front k ≡ Some m → m.node.0 ≢ node.0) → with_members node procs front ≡ front ++ master node procs ∷ []
+pub with_members-new : (node : NodeId) (procs : List NodeId) (front : List MasterDef) → ((k : ℕ) (m : MasterDef) → slice_get front k ≡ Some m → m.node.0 ≢ node.0) → with_members node procs front ≡ front ++ master node procs ∷ []
 with_members-new node procs [] others = refl
 with_members-new node procs (m ∷ []) others = rw (unequal m.node.0 node.0 (others zero m refl)) refl
 with_members-new node procs (m ∷ next ∷ front) others = ap (λ (more : List MasterDef). m ∷ more) (with_members-new node procs (next ∷ front) (λ k x here. others (suc k) x here))
 
-takes_new : (t : Topology) (front : List MasterDef) (node : NodeId) (procs : List NodeId) → ((k : ℕ) (m : MasterDef) → slice_get front k ≡ Some m → m.node.0 ≢ node.0) → taken (Owner node (record { items = numbers_of procs })) (with_masters t front) ≡ Ok (with_masters t (front ++ master node procs ∷ []))
+pub takes_new : (t : Topology) (front : List MasterDef) (node : NodeId) (procs : List NodeId) → ((k : ℕ) (m : MasterDef) → slice_get front k ≡ Some m → m.node.0 ≢ node.0) → taken (Owner node (record { items = numbers_of procs })) (with_masters t front) ≡ Ok (with_masters t (front ++ master node procs ∷ []))
 unfolding taken
 takes_new t front node procs others = rw (nodes_again procs, with_members-new node procs front others) refl
 
-takes_more : (t : Topology) (front : List MasterDef) (node : NodeId) (before procs : List NodeId) → taken (Owner node (record { items = numbers_of procs })) (with_masters t (front ++ master node before ∷ [])) ≡ Ok (with_masters t (front ++ master node (before ++ procs) ∷ []))
+pub takes_more : (t : Topology) (front : List MasterDef) (node : NodeId) (before procs : List NodeId) → taken (Owner node (record { items = numbers_of procs })) (with_masters t (front ++ master node before ∷ [])) ≡ Ok (with_masters t (front ++ master node (before ++ procs) ∷ []))
 unfolding taken
 takes_more t front node before procs = rw (nodes_again procs, with_members-same node procs front (master node before) (equal node.0 node.0 refl)) refl
 

@@ -1,6 +1,7 @@
 pub mod Answers
 pub mod Draft
 pub mod Meaning
+pub mod Means
 pub mod Printing
 pub mod Reading
 pub mod Table

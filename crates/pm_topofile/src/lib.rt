@@ -13,6 +13,6 @@ mod reading;
 mod table;
 
 pub use fault::{TopoTextCause, TopoTextFault, TopologyError};
-pub use laws::printed_topology_is_read_again;
+pub use laws::{one_topology, printed_topology_is_read_again};
 pub use meaning::read_topology;
 pub use printing::print_topology;

@@ -1,10 +1,12 @@
 //! The topology that a text means.
 
-ghost use Rattle.std.specs.Prelude.{◌≤◌, length, IfOk};
+ghost use Rattle.std.specs.Prelude.{◌≤◌, length, IfOk, Ok};
 ghost use Rattle.pm_io.specs.Lines.{lines_of};
 ghost use Rattle.pm_topology.specs.WellFormed.{IsSupported};
+ghost use Rattle.pm_topology.specs.declared.topology.Topology.{Topology};
 ghost use Rattle.pm_topofile.specs.Answers.{Gives};
 ghost use Rattle.pm_topofile.specs.Meaning.{lines_taken, meaning};
+ghost use Rattle.pm_topofile.specs.Means.{Means};
 ghost use Rattle.pm_topofile.specs.Taking.{nothing};
 
 use crate::draft::Draft;
@@ -56,6 +58,10 @@ fn read_text(alloc: Global, text: &[u8]) -> Result<Topology, TopologyError>
 /// each line is right and the topology breaks a rule, with the first fault of its check. The other error is want of
 /// memory.
 pub fn read_topology(alloc: Global, text: &[u8]) -> Result<Topology, TopologyError>
+    // The text means what is read.
+    ensures found { IfOk result (λ t. Means text.now t) }
+    // What the text means is read.
+    ensures only { (t : Topology) → Means text.now t → Gives result (Ok t) }
     // The answer is the topology that the text means, or its first fault.
     ensures exact { Gives result (meaning text.now) }
     // It keeps all rules, and its capabilities are known ones.
