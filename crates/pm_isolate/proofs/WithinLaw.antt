@@ -94,8 +94,8 @@ history_alike laws c m unit closed beyond (x ∷ xs) (y ∷ ys) books alike =
     ∙ ap (λ (later : List ℕ). shown unit y.after.book ∷ later) (history_alike laws c m unit closed beyond xs ys (λ k d within. books (suc k) d (omega (arith, within))) alike.1)
 
 -- a unit beyond the reach of a master doesn't differ
-within : (laws : ReachLaws) (c : Setup) (m : NodeId) (events : List Event) (unit : Unit) → AreObjects (fixed_of c) → IsWellFormed c.topology → is_beyond c.object c.topology (border_of (fixed_of c) m) unit ≡ true → transitions unit (run c events) ≡ transitions unit (run c (quiet m events))
-within laws c m events unit object chip beyond =
+pub same_beyond : (laws : ReachLaws) (c : Setup) (m : NodeId) (events : List Event) (unit : Unit) → AreObjects (fixed_of c) → IsWellFormed c.topology → is_beyond c.object c.topology (border_of (fixed_of c) m) unit ≡ true → transitions unit (run c events) ≡ transitions unit (run c (quiet m events))
+same_beyond laws c m events unit object chip beyond =
     ap (λ (values : List ℕ). changes 0 0 values) (history_alike laws c m unit (laws.closed (fixed_of c) m object chip) beyond (run c events) (run c (quiet m events)) (laws.books c events chip) (laws.alike c m events object chip))
 
 -- ---- what isn't beyond is listed
@@ -174,7 +174,7 @@ pub differs_within : (laws : ReachLaws) (c : Setup) (m : NodeId) (events : List 
 differs_within laws c m events found unit object chip reach there differ = by (is_beyond c.object c.topology (border_of (fixed_of c) m) unit) refl
   where
     by : (b : Bool) → is_beyond c.object c.topology (border_of (fixed_of c) m) unit ≡ b → IsListed c.object c.topology found unit
-    by true beyond = absurd (differs_only (run c events) (run c (quiet m events)) unit differ (within laws c m events unit object chip beyond))
+    by true beyond = absurd (differs_only (run c events) (run c (quiet m events)) unit differ (same_beyond laws c m events unit object chip beyond))
     by false not = listed laws (fixed_of c) m found reach unit there not
 
 -- ---- each of all that differ

@@ -11,6 +11,8 @@ ghost use Rattle.pm_state.specs.State.{objects_of};
 ghost use Rattle.pm_run.specs.Run.{Line, Setup, fixed_of, run};
 ghost use Rattle.pm_laws.specs.Border.{AreObjects};
 ghost use Rattle.pm_laws.specs.Quiet.{quiet};
+ghost use Rattle.pm_laws.specs.ReachBorder.{border_of};
+ghost use Rattle.pm_laws.specs.Values.{is_beyond};
 ghost use Rattle.pm_topology.specs.Units.{has_unit};
 ghost use Rattle.pm_isolate.specs.Listed.{AreListed, IsListed};
 ghost use Rattle.pm_isolate.specs.Transitions.{differs, transitions};
@@ -27,9 +29,14 @@ pub fn transitions_are_exact()
         → transitions unit first ≡ transitions unit second → ⊥ }
 {}
 
-/// A unit whose transitions differ between a run and the run without the messages of a master is a member of
-/// the reach of that master, or a processor of a master that is one; and so is each of all that differ.
+/// A unit beyond the reach of a master has the same transitions in a run and in the run without the messages of that
+/// master. So a unit whose transitions differ is a member of the reach, or a processor of a master that is one; and so is
+/// each of all that differ.
 pub fn what_differs_is_reached()
+    ensures beyond { (c : Setup) (m : NodeId) (events : List Event) (unit : Unit)
+        → AreObjects (fixed_of c) → IsWellFormed c.topology
+        → is_beyond c.object c.topology (border_of (fixed_of c) m) unit ≡ true
+        → transitions unit (run c events) ≡ transitions unit (run c (quiet m events)) }
     ensures one { (c : Setup) (m : NodeId) (events : List Event) (members : List Member) (unit : Unit)
         → AreObjects (fixed_of c) → IsWellFormed c.topology
         → IsReach (objects_of (fixed_of c)) c.topology m members

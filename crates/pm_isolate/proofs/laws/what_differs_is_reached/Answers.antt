@@ -1,4 +1,4 @@
-use Rattle.pm_isolate.proofs.WithinLaw.{ReachLaws, all_within, differs_within}
+use Rattle.pm_isolate.proofs.WithinLaw.{ReachLaws, all_within, differs_within, same_beyond}
 use Rattle.pm_isolate.proofs.laws.what_differs_is_reached.Goals as goal
 
 pub returns : goal.returns
@@ -13,4 +13,4 @@ returns c =
       kinds = c.kinds_are_exact.ensures;
       units = c.units_stand_in_order.ensures;
     } in
-    record { one = differs_within laws; all = all_within laws }
+    record { beyond = same_beyond laws; one = differs_within laws; all = all_within laws }
