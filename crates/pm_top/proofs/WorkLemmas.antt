@@ -28,7 +28,7 @@ use Rattle.pm_device.specs.Act.{Fit}
 use Rattle.pm_device.specs.declared.device.Device as Device
 use Rattle.pm_drive.specs.Scripts.{script_text}
 use Rattle.pm_script.specs.Named.{IsScript}
-use Rattle.pm_script.specs.Script.{Script, Stop}
+use Rattle.pm_script.specs.Script.{Script, Stop, script_limit}
 use Rattle.pm_trace.specs.declared.faults.Fault.{Fault}
 use Rattle.pm_trace.specs.declared.faults.Fault.TheVariants.{Memory, Read}
 use Rattle.pm_trace.specs.declared.faults.Fault.TheVariants as faults
@@ -42,8 +42,9 @@ use Rattle.pm_top.specs.declared.works.Work.{Work}
 use Rattle.pm_top.specs.declared.works.Work.TheVariants.{Replay, Isolate, Make, Write}
 use Rattle.pm_top.specs.declared.works.Source.TheVariants as source
 use Rattle.pm_top.specs.declared.reading.Subject.{Subject}
-use Rattle.pm_top.specs.Asked.{laboratory_if, lines_asked, lines_by, no_script, script_word}
-use Rattle.pm_top.specs.Fit.{IsFitted, LeftBy, MayBeFitted}
+use Rattle.pm_top.specs.Asked.{laboratory_if, lines_asked, lines_by, no_script, script_word, topology_limit}
+use Rattle.pm_top.specs.Fit.{HoldsTopology, IsFitted, LeftBy, MayBeFitted}
+use Rattle.pm_top.specs.Given.{HoldsEach, IsTopologyOf, Text, text}
 use Rattle.pm_top.specs.Form.{IsPiece, form_of}
 use Rattle.pm_top.specs.Words.{word}
 use Rattle.pm_top.specs.Job.{IsFound}
@@ -299,23 +300,38 @@ module _ {I O D : Type 0} (i : Inputs.Ghosts I) (o : Sink.Ghosts O) (d : Device.
       done_is_memory : exit.Done ≡ exit.Memory → ⊥
       done_is_memory e = cc
 
+      -- the texts of the topology
+      texts_held : (named : Option ℕ) → HoldsTopology named ws (i.state old) subject.topology → (texts : List Text) × IsTopologyOf named ws texts subject.topology × HoldsEach (i.state old) texts
+      texts_held None is = ([], (refl, is), tt)
+      texts_held (Some k) held = (text (word k ws) topology_limit held.0 ∷ [], (held.0, refl, held.2), (held.1, tt))
+
+      each_append : (first second : List Text) → HoldsEach (i.state old) first → HoldsEach (i.state old) second → HoldsEach (i.state old) (first ++ second)
+      each_append [] second one two = two
+      each_append (it ∷ first) second one two = (one.0, each_append first second one.1 two)
+
       ran : ReplaysFitted i o d named subject.object subject.topology board is (word 2 ws) (world mid sink dev) (world new sink' dev') result → IsReplayed i o d named ws board is (world old sink dev) (world new sink' dev')
       ran fits =
           let f : Form = form_of Replay named in
           let run = fits.done seen written done in
+          let texts = texts_held named (topology_held f i.observable ws (i.state old) (i.state mid) subject reads seen) in
           record {
             object_bytes = reads.prefix.bytes;
+            topology_texts = texts.0;
             script_bytes = run.script_bytes;
             object = subject.object;
             topology = subject.topology;
             events = run.events;
             answers = run.answers;
             start = fits.start;
-            object_held = object_held i.observable f ws (i.state old) (i.state mid) subject reads refl seen;
-            topology_held = topology_held f i.observable ws (i.state old) (i.state mid) subject reads seen;
-            script_held = second_held (word 2 ws) run.script_bytes (subject_files f i.observable ws (i.state old) (i.state mid) subject reads seen) run.held;
+            read = (
+              object_held i.observable f ws (i.state old) (i.state mid) subject reads refl seen,
+              each_append texts.0 (text (word 2 ws) script_limit run.script_bytes ∷ []) texts.2
+                  (second_held (word 2 ws) run.script_bytes (subject_files f i.observable ws (i.state old) (i.state mid) subject reads seen) run.held, tt),
+            );
             reads = reads.says;
+            over = texts.1;
             means = run.means;
+            formed = reads.supported.well_formed;
             text = run.text;
             fitted = fits.fitted;
             drove = run.drove;

@@ -6,7 +6,9 @@ pub mod Within
 pub mod Form
 pub mod Reads
 pub mod Making
+pub mod Given
 pub mod Theorem
+pub mod Headline
 pub mod Done
 pub mod Ran
 pub mod Complete

@@ -12,6 +12,8 @@ ghost use Rattle.pm_top.specs.Complete.{IsComplete};
 ghost use Rattle.pm_top.specs.Done.{IsDone, WorkDone};
 ghost use Rattle.pm_top.specs.declared.works.Work.TheVariants.{Replay};
 ghost use Rattle.pm_top.specs.Fit.{IsSafeRun};
+ghost use Rattle.pm_top.specs.Given.{HoldsEach};
+ghost use Rattle.pm_top.specs.Headline.{Headline};
 ghost use Rattle.pm_top.specs.Form.{form, form_of, over, request_of, topology_in};
 ghost use Rattle.pm_top.specs.Reads.{FormReads};
 ghost use Rattle.pm_top.specs.Ran.{Decides, DroveRun, EachEmptiesBoxes, EachFollowsClocks, EachHasCauses, EachKeepsApart, EachLowersCalls, EachTellsCalls, InputsMayFail, IsBeforeRun, Ran, RanForm};
@@ -27,12 +29,15 @@ use pm_drive::{
     calls_are_told, clocks_are_followed, power_calls_are_their_events, scripts_are_lowered,
 };
 use pm_io::{Inputs, Sink};
+use pm_isolate::what_differs_is_reached;
+use pm_laws::reach_is_closed;
 use pm_modules::{ModulesOf, Responder};
 use pm_object::one_reading;
 use pm_objtext::one_meaning;
 use pm_replay::driven_runs_keep_apart;
 use pm_run::boxes_of_a_run;
 use pm_tasks::{Handler, TasksOf};
+use pm_topology::kinds_are_exact;
 use pm_trace::{Fault, exits_say, refuse};
 use std::alloc::Global;
 use std::mem::replace;
@@ -64,6 +69,11 @@ pub fn pm_main<I: Inputs, O: Sink, D: Device, H: Responder, T: Handler>(
         (standing H.Responder T.Handler modules.now tasks.old)
         (standing H.Responder T.Handler modules.now tasks.new)
         (world inputs.old out.old dev.old) (world inputs.new out.new dev.new) }
+    // On Done of `replay` the headline holds of the bytes that the inputs held.
+    ensures headline { I.observable → O.observable → (named : Option ℕ) → result ≡ Exit.Done
+        → request_of (map string_bytes words.now) ≡ Some (over named Replay)
+        → Headline O.Sink D.Device (HoldsEach (I.state inputs.old)) named (map string_bytes words.now)
+        (standing H.Responder T.Handler modules.now tasks.old) out.old out.new dev.old dev.new }
     // Usage comes exactly where the words have no form.
     ensures usage { (result ≡ Exit.Usage) ↔ (form (map string_bytes words.now) ≡ None) }
     // On Done of `replay`, whatever the inputs and the sink show: the device was driven through the whole run of a
@@ -142,6 +152,9 @@ pub fn pm_main<I: Inputs, O: Sink, D: Device, H: Responder, T: Handler>(
     clocks_are_followed();
     one_reading();
     one_meaning();
+    reach_is_closed();
+    what_differs_is_reached();
+    kinds_are_exact();
     run_board(alloc, words, inputs, out, dev, modules, tasks)
 }
 

@@ -1,13 +1,38 @@
-use Rattle.std.proofs.Common.{map, string_bytes}
+use Rattle.std.proofs.Common.{Option, map, string_bytes, subst}
 use Rattle.pm_io.specs.World.{world}
 use Rattle.pm_block.specs.Block.{passed}
 use Rattle.pm_run.specs.Run.{setup, setup_for}
 use Rattle.pm_run.proofs.FormedLemmas.{objects_formed}
+use Rattle.pm_top.specs.declared.works.Request.{Request}
+use Rattle.pm_top.specs.Done.{DoneIf}
+use Rattle.pm_top.specs.Given.{HoldsEach}
+use Rattle.pm_top.specs.Theorem.{IsReplayed}
 use Rattle.pm_top.proofs.CompleteLemmas.{is_complete}
 use Rattle.pm_top.proofs.DroveLemmas.{replay_drove}
+use Rattle.pm_top.proofs.HeadlineLaw.{HeadlineLaws, replayed_headline}
 use Rattle.pm_top.proofs.MainLemmas.{decides, memory, read_cause, reading_fault, unfailing, untouched, usage, writing_fault}
 use Rattle.pm_board.specs.Standing.{standing}
 use Rattle.pm_top.proofs.program.pm_main.Goals as goal
+
+pub returns-clause-headline : goal.returns-clause-headline
+returns-clause-headline g c = λ seen written named done is.
+    let laws : HeadlineLaws g.D.Device = record {
+      kinds = c.kinds_are_exact.ensures;
+      exact = c.reach_is_closed.ensures.exact;
+      objects = objects_formed c.attached_objects_are_formed.ensures;
+      keeps = c.driven_runs_keep_apart.ensures.run;
+      causes = c.runs_have_causes.ensures.run;
+      transitions = c.what_differs_is_reached.ensures.beyond;
+    } in
+    let found = standing g.H.Responder g.T.Handler c.args.modules.now c.args.tasks.now in
+    let left = standing g.H.Responder g.T.Handler c.args.modules.now c.run_board.new.tasks in
+    let w = world c.args.inputs.now c.args.out.now c.args.dev.now in
+    let w' = world c.run_board.new.inputs c.run_board.new.out c.run_board.new.dev in
+    let run : IsReplayed g.I.Inputs g.O.Sink g.D.Device named (map string_bytes c.args.words.now) found left w w' =
+    subst (λ (request : Option Request). DoneIf g.I.Inputs g.O.Sink g.D.Device request (map string_bytes c.args.words.now) found left w w') is
+    (c.run_board.ensures.done seen written done)
+    in
+    replayed_headline g.O.Sink g.D.Device laws (HoldsEach (g.I.Inputs.state w.inputs)) named (map string_bytes c.args.words.now) found left w.sink w'.sink w.device w'.device run
 
 pub returns-clause-usage : goal.returns-clause-usage
 returns-clause-usage g c = usage g.I.Inputs g.O.Sink c.exits_say.ensures g.D.Device (map string_bytes c.args.words.now) (standing g.H.Responder g.T.Handler c.args.modules.now c.args.tasks.now) (standing g.H.Responder g.T.Handler c.args.modules.now c.run_board.new.tasks) (world c.args.inputs.now c.args.out.now c.args.dev.now) (world c.run_board.new.inputs c.run_board.new.out c.run_board.new.dev) c.run_board.result c.run_board.ensures.ran
