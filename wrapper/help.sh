@@ -16,7 +16,7 @@ usage: ./pmu replay OBJ SCRIPT   runs the script of the file SCRIPT over the con
        ./pmu --install PREFIX    puts the proved program, the library, its headers and manual pages below a folder
        ./pmu --uninstall PREFIX  removes what was put there
        ./pmu --help, ./pmu -h    writes this help; behind the first word of a form, that of the form
-       ./pmu --version, ./pmu -V    writes which toolchain and which commit this is, and whether it is proved
+       ./pmu --version, ./pmu -V    writes which version, toolchain and commit this is, and whether it is proved
 
 Views of what it reads and writes, in other ways:
        ./pmu --names FORM..      the output of a form above, with what each line means; NODE and files may have names
@@ -38,8 +38,8 @@ docs/VIEWS.md and docs/OBJECTS.md explain them. Nothing is proved of them.
 A file - is standard input. With -o FILE (--output FILE), anywhere among the words, what is written goes to FILE, which
 stays as it was if there is a fault. Behind -- no word is an option.
 Until ./pmu --prove has proved the program, the answers are those of the program before its proof, and each call says so
-on standard error. The first call compiles that: two processors take a minute or two. It is as fast as the proved one: a
-script of 100,000 lines takes less than a second. If the toolchain can't optimise it, it takes 20 seconds for these.
+on standard error. The first call compiles that: two processors take a minute or two. It is nearly as fast as the proved
+one: a script of 100,000 lines takes less than a second. If the toolchain can't optimise it, it takes 20 seconds for these.
 The proof takes two hours of a processor: two processors take about an hour.
 
 exit   0 all was written                  7 the script is too long
@@ -72,9 +72,15 @@ help_of() {
         /^$/ { exits = 0 }'
 }
 
+# The version of the headers, as MAJOR.MINOR.PATCH.
+version_of_headers() {
+    awk '$2 ~ /^PMU_VERSION_(MAJOR|MINOR|PATCH)$/ { printf "%s%s", dot, $3; dot = "." }' "$top/include/pmu.h"
+}
+
 # The words of `--version`; an installed copy has kept those of the checkout that it is of.
 version() {
     if [ -f "$top/version" ]; then cat "$top/version"; return; fi
+    echo "pmu $(version_of_headers)"
     if command -v rt >/dev/null; then rt version || exit 125; else echo "no toolchain: rt isn't in the path"; fi
     if [ -e "$top/.git" ] && commit=$(git -C "$top" rev-parse HEAD 2>/dev/null); then
         changes=''

@@ -3,11 +3,6 @@
 # wrapper. With DESTDIR in the environment all goes below that folder, as packagers want it; what is written into files
 # names PREFIX alone.
 
-# The version of the headers, as MAJOR.MINOR.PATCH.
-version_of_headers() {
-    awk '$2 ~ /^PMU_VERSION_(MAJOR|MINOR|PATCH)$/ { printf "%s%s", dot, $3; dot = "." }' "$top/include/pmu.h"
-}
-
 # Puts a file of the repository, or of a build, to its place below the prefix with this mode, and notes that.
 put() {
     mkdir -p "$root/${3%/*}" && cp "$2" "$root/$3" && chmod "$1" "$root/$3" && echo "$3" >>"$list"
@@ -63,6 +58,13 @@ END_OF_FILE
     put 644 "$room/pmu.pc" lib/pkgconfig/pmu.pc
 }
 
+# Puts the documents and the examples, which these name.
+put_documents() {
+    for file in "$top"/README.md "$top"/docs/*.md "$top"/docs/pictures/* "$top"/examples/*.* "$top"/topologies/*.*; do
+        put 644 "$file" "share/doc/pmu/${file#"$top"/}" || return
+    done
+}
+
 # A manual page: its name and section, what it is, and a text as it stands.
 page() {
     printf '.TH %s %s "" "pmu %s"\n.SH NAME\n%s \\- %s\n.SH DESCRIPTION\n.nf\n' "$1" "$2" "$number" "$1" "$3"
@@ -91,25 +93,23 @@ install_all() {
     [ ! -x "$top/program" ] || { say "this is an installed copy: install from a checkout"; exit 125; }
     proved_alone=yes PMU_PROGRAM=''
     choose_program
-    number=$(version_of_headers) library=${PMU_LIBRARY:-$top/out/c}
+    number=$(. "$top/wrapper/help.sh" && version_of_headers) library=${PMU_LIBRARY:-$top/out/c}
     room=$(mktemp -d "${TMPDIR:-/tmp}/pmu.XXXXXX") && list=$room/list && : >"$list" || exit 125
     trap 'rm -rf "$room"' EXIT
     remove_listed
-    put_program && put_library && put_pages && echo lib/pmu/installed >>"$list" && cp "$list" "$root/lib/pmu/installed" ||
+    put_program && put_library && put_documents && put_pages && echo lib/pmu/installed >>"$list" && cp "$list" "$root/lib/pmu/installed" ||
         { say "not all could be put below $root: what was put is removed"; cp "$list" "$root/lib/pmu/installed"; remove_listed; exit 125; }
     say "$(wc -l <"$list") files are installed below $root; ./pmu --uninstall $prefix removes them"
 }
 
-# Removes what an earlier call put there, and folders of the program that are empty then.
+# Removes what an earlier call put there, and the folders that are empty then.
 remove_listed() {
     [ -f "$root/lib/pmu/installed" ] || return 0
     while IFS= read -r file; do
-        case $file in /* | *..*) ;; *) rm -f "$root/$file" ;; esac
-    done <"$root/lib/pmu/installed"
-    rm -f "$root/lib/pmu/installed"
-    rmdir "$root"/lib/pmu/* "$root/lib/pmu" "$root/lib/pkgconfig" "$root"/share/man/man? "$root/share/man" "$root/share" "$root/include" \
-        "$root/bin" "$root/lib" 2>/dev/null
-    return 0
+        case $file in /* | *..*) ;; *) rm -f "$root/$file" && (cd "$root" && rmdir -p "${file%/*}" 2>/dev/null) ;; esac
+    done <<END_OF_LIST
+$(cat "$root/lib/pmu/installed")
+END_OF_LIST
 }
 
 uninstall_all() {

@@ -78,7 +78,7 @@ def write(path, data, mode=None):
 class Tree(unittest.TestCase):
     """A copy of the repository with no program, with a script for the toolchain, which needs no definitions or proofs."""
 
-    LEFT_OUT = ["out", ".git", "must-fail", "more-edits", "__pycache__", "specs", "proofs", "docs"]
+    LEFT_OUT = ["out", ".git", "must-fail", "more-edits", "__pycache__", "specs", "proofs"]
 
     def setUp(self):
         self.room = tempfile.mkdtemp()

@@ -139,16 +139,16 @@ class Version(Tree):
 
     def test_the_version(self):
         out = self.call("--version")[1].decode()
-        self.assertEqual(out, "a toolchain\nprogram not proved\n")
+        self.assertEqual(out, "pmu 0.1.0\na toolchain\nprogram not proved\n")
         self.assertEqual(self.call("-V"), (0, out.encode(), ""))
         self.call("--prove")
-        self.assertEqual(self.call("-V"), (0, b"a toolchain\nprogram proved\n", ""))
+        self.assertEqual(self.call("-V"), (0, b"pmu 0.1.0\na toolchain\nprogram proved\n", ""))
         self.assertEqual(self.calls("try"), 0)
 
     def test_each_form_works_without_a_toolchain_if_a_program_is_there(self):
         self.call("--prove")
         path = self.without_toolchain()
-        self.assertEqual(self.call("--version", PATH=path), (0, b"no toolchain: rt isn't in the path\nprogram proved\n", ""))
+        self.assertEqual(self.call("--version", PATH=path), (0, b"pmu 0.1.0\nno toolchain: rt isn't in the path\nprogram proved\n", ""))
         for words in (["replay", "examples/laboratory.obj", "examples/sleep.script"], ["--names", "print", "examples/laboratory.obj"], ["lint", "examples/laboratory.obj"]):
             self.assertEqual(self.call(*words, PATH=path)[::2], (0, ""), words)
 
