@@ -8,12 +8,13 @@ object from its load on, and the answers are the program's.
 import os
 import tempfile
 import textwrap
-from typing import NamedTuple, Optional
+from typing import Any, NamedTuple, Optional
 
 import chip as chips
 import device_source
 import device_tree
 import faults
+import findings
 import names
 import objects
 import published
@@ -194,16 +195,35 @@ def all_things(chip: chips.Chip) -> list[Thing]:
     return [Thing(kind, number) for kind, numbers in (("slave", chip.of_kind("slave")), ("line", lines), ("clock", clocks)) for number in numbers]
 
 
-def unasked(found: Asked, master: int, answers: dict[int, Answers], chip: chips.Chip) -> list[str]:
+def left_over(found: Asked, master: int, answers: dict[int, Answers], chip: chips.Chip) -> dict[str, list[str]]:
     """What is permitted to a master and no device asks for, by kinds."""
     wanted = {(thing.kind.replace("wake", "slave"), thing.number) for thing in found.things()}
-    said = []
-    for kind, title in (("slave", "slaves"), ("line", "reset lines"), ("clock", "clocks")):
-        left = [thing for thing in all_things(chip) if thing.kind == kind and thing not in wanted]
-        left = [thing.name.replace("clock ", "") for thing in left if answers[master].status.get(thing) in GRANTED]
-        if left:
-            said.append(textwrap.fill(f"{title}: {', '.join(left)}", 118, initial_indent="  ", subsequent_indent="    "))
-    return said
+    left: dict[str, list[str]] = {"slave": [], "line": [], "clock": []}
+    for thing in all_things(chip):
+        if thing not in wanted and answers[master].status.get(thing) in GRANTED:
+            left[thing.kind].append(thing.name.replace("clock ", ""))
+    return left
+
+
+def unasked(left: dict[str, list[str]]) -> list[str]:
+    """What no device asks for, in lines."""
+    titles = {"slave": "slaves", "line": "reset lines", "clock": "clocks"}
+    return [
+        textwrap.fill(f"{titles[kind]}: {', '.join(found)}", 118, initial_indent="  ", subsequent_indent="    ") for kind, found in left.items() if found
+    ]
+
+
+def thing_in_json(thing: Thing, answers: dict[int, Answers]) -> dict[str, Any]:
+    """A thing that a device asks for, and who gets it."""
+    to = {names.node_name(it): answers[it].said.get(thing, "no answer") for it in answers}
+    may = [names.node_name(it) for it in answers if answers[it].status.get(thing) in GRANTED]
+    return {"kind": thing.kind, "number": thing.number, "name": thing.name, "permitted": may, "answers": to}
+
+
+def in_json(found: Asked, master: int, answers: dict[int, Answers], chip: chips.Chip) -> dict[str, Any]:
+    """All of a report for a program."""
+    devices = [{"name": it.name, "asks": [thing_in_json(thing, answers) for thing in it.things]} for it in found.devices]
+    return {"master": names.node_name(master), "devices": devices, "unknown clocks": sorted(set(found.unknown)), "unasked": left_over(found, master, answers, chip)}
 
 
 def report(found: Asked, master: int, answers: dict[int, Answers], chip: chips.Chip) -> tuple[list[str], int]:
@@ -214,7 +234,7 @@ def report(found: Asked, master: int, answers: dict[int, Answers], chip: chips.C
     said.append(f"{count(len(found.devices), 'device')} {'asks' if len(found.devices) == 1 else 'ask'} for {much}; refused to {name}: {refused}")
     if found.unknown:
         said.append(f"not judged: {count(len(found.unknown), 'clock')} that this core hasn't ({len(set(found.unknown))} different)")
-    left = unasked(found, master, answers, chip)
+    left = unasked(left_over(found, master, answers, chip))
     said += [f"permitted to {name}, and no device asks for it:", *left] if left else []
     return said, FOUND if refused else 0
 
@@ -231,7 +251,9 @@ def master_of(words: list[str], board: chips.Board) -> int:
 
 
 def main(words: list[str]) -> int:
-    """`dts [--master NODE] OBJ TREE [TOPO]`."""
+    """`dts [--json] [--master NODE] OBJ TREE [TOPO]`."""
+    is_json = "--json" in words
+    words = [word for word in words if word != "--json"]
     rest = words[2:] if words[:1] == ["--master"] else words
     if len(rest) not in (2, 3):
         raise BadUse(USAGE)
@@ -247,5 +269,6 @@ def main(words: list[str]) -> int:
     with tempfile.TemporaryDirectory() as room:
         answers = {it.node: answers_of(path, board, it.node, things, room) for it in board.found.records("master")}
     said, status = report(found, master, answers, board.chip)
-    print("".join(line + "\n" for line in said), end="")
+    text = findings.in_json(in_json(found, master, answers, board.chip)) if is_json else "".join(line + "\n" for line in said)
+    print(text, end="")
     return status

@@ -68,7 +68,7 @@ class Log:
         except logs.Unreadable as why:
             self.unreadable.append((place, str(why)))
             return
-        if not entries:
+        if entries is None:
             self.passed += 1
             return
         stamp = STAMP.search(line)

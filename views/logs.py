@@ -19,6 +19,9 @@ SUSPEND_TO_RAM, ANY_LATENCY = 15, 0xFFFFFFFF
 # What the kernel makes of a status (zynqmp_pm_ret_code in drivers/firmware/xilinx/zynqmp.c): its error numbers.
 ERRORS = {-13: "-EACCES", -22: "-EINVAL", -87: "-EUSERS", -125: "-ECANCELED", -524: "-ENOTSUPP"}
 
+# From here on calls are TF-A's (plat/xilinx/zynqmp/pm_service/pm_svc_main.h), which sends no message for them.
+FIRMWARE_CALLS = 0xA00
+
 # Calls whose words mean other things on a board: dividers and parents are packed and counted otherwise there.
 OTHERWISE = (39, 40, 43, 44)
 CLOCK_CALLS = (36, 37, 38)
@@ -67,6 +70,8 @@ def is_answered(call: int, words: tuple) -> bool:
 def message(master: int, call: int, words: tuple, answer: str = ""):
     """The entry of a message, or why the script can't have it."""
     known = names.CALLS.get(call)
+    if call >= FIRMWARE_CALLS:
+        return Left(f"call {call:#x} is TF-A's own")
     if known is None or known.arguments is None:
         return Left(names.call_name(call) + " isn't served by this core")
     if call in OTHERWISE:

@@ -2,17 +2,18 @@
 
 The first thing that is otherwise in each script is told. `--all` tells all, `--tap` writes as a robot reads it (Test
 Anything Protocol, version 13), `--junit FILE` writes the same as a file of JUnit, and `--topology TOPO` runs over another
-topology.
+topology. `--json` writes all in JSON.
 """
 
 import os
 import tempfile
-from typing import NamedTuple, Optional
+from typing import Any, NamedTuple, Optional
 from xml.sax.saxutils import quoteattr
 
 import chip as chips
 import expectations
 import faults
+import findings
 import judged
 import to_names
 import to_numbers
@@ -24,7 +25,7 @@ from target import Target
 from told import in_one_line, tell
 
 # The options, and whether a word follows each.
-OPTIONS = {"--tap": False, "--all": False, "--junit": True, "--topology": True}
+OPTIONS = {"--tap": False, "--all": False, "--json": False, "--junit": True, "--topology": True}
 
 
 class Outcome(NamedTuple):
@@ -105,6 +106,21 @@ def as_tap(outcomes: list[Outcome]):
             print(f"# {in_one_line(difference)}")
 
 
+def as_json(outcomes: list[Outcome]) -> list[dict[str, Any]]:
+    """The outcomes for a program: each expectation with what is in its place, or null if it is met."""
+    return [
+        {
+            "script": it.name,
+            "exit": it.status,
+            "said": it.sentence,
+            "expectations": [
+                {"line": clause.step, "place": clause.place, "expected": clause.text, "difference": instead} for clause, instead in it.clauses
+            ],
+        }
+        for it in outcomes
+    ]
+
+
 def as_junit(outcomes: list[Outcome], obj: str) -> str:
     """The outcomes as a file of JUnit: a suite for each script, and a case for each expectation."""
     suites = []
@@ -148,7 +164,7 @@ def status_of(outcomes: list[Outcome]) -> int:
 
 
 def main(words: list[str]) -> int:
-    """`test [--tap] [--all] [--junit FILE] [--topology TOPO] OBJ SCRIPT..`."""
+    """`test [--all | --tap | --json] [--junit FILE] [--topology TOPO] OBJ SCRIPT..`."""
     given, others = options_of(words)
     if len(others) < 2:
         raise BadUse("test takes an OBJ and one SCRIPT or more, as in ./pmu --help")
@@ -165,6 +181,8 @@ def main(words: list[str]) -> int:
             target.drop()
     if "--tap" in given:
         as_tap(outcomes)
+    elif "--json" in given:
+        print(findings.in_json(as_json(outcomes)), end="")
     else:
         plainly(outcomes, "--all" in given)
     for it in outcomes:

@@ -1,5 +1,6 @@
 """`dts OBJ TREE`: what Linux asks for by a device tree, and what an object refuses."""
 
+import json
 import re
 
 from common import Case, example, view
@@ -110,6 +111,15 @@ class Refusals(Case):
         self.assertIn("  refused: UART_0 (no access; APU may)\n", output.decode())
         self.assertIn("  refused: RESET_GEM0 (no access; nobody may)\n", output.decode())
         self.assertIn("  slaves: OCM_BANK_0\n", output.decode())
+
+    def test_in_json(self):
+        status, output, _ = view("dts", "--json", example("pm_cfg_obj.obj"), example("board.dtb"))
+        found = json.loads(output)
+        self.assertEqual((status, found["master"], found["unknown clocks"]), (102, "APU", ["LPD_LSBUS"]))
+        asks = found["devices"][1]["asks"][0]
+        self.assertEqual((asks["kind"], asks["number"], asks["name"], asks["permitted"]), ("slave", 34, "UART_1", ["RPU_0"]))
+        self.assertEqual(asks["answers"], {"APU": "no access", "RPU_0": "double request", "RPU_1": "no access"})
+        self.assertIn("SPI_0", found["unasked"]["slave"])
 
     def test_its_words(self):
         self.assertIn("dts takes an OBJ", self.refused("dts", example("laboratory.obj")))

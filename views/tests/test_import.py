@@ -77,7 +77,7 @@ class Formats(Case):
         self.assertEqual(lines[1:3], ["ipi APU GET_NODE_STATUS APU_1", "ipi APU REQUEST_WAKEUP APU_1 1 0 BLOCKING"])
         self.assertEqual(lines[7:9], ["ipi APU SELF_SUSPEND APU_1 0xffffffff 0 0 0", "wfi APU_1"])
         self.assertEqual(lines[13:16], ["ipi APU SELF_SUSPEND APU_0 0xffffffff 15 0 0", "wfi APU_0", "gic APU_0"])
-        self.assertEqual(told, ["console.log: 17 calls; 20 lines passed over that have none"])
+        self.assertEqual(told, ["console.log: 17 calls; 12 lines passed over that have none"])
 
     def test_a_processor_that_isnt_printed_is_told_with_its_place(self):
         _, told = script_of("tfa-verbose.log")

@@ -1,5 +1,6 @@
 """`test OBJ SCRIPT..`: what is expected of runs, and what is told where it is otherwise."""
 
+import json
 import os
 import tempfile
 import xml.etree.ElementTree as ElementTree
@@ -155,6 +156,14 @@ class Judged(Case):
         self.assertEqual([(it.get("tests"), it.get("failures"), it.get("errors")) for it in suites], [("2", "0", "0"), ("2", "1", "0")])
         failures = [it.get("message") for it in suites.iter("failure")]
         self.assertEqual(failures, [f"{bad}:1: expected answer NO_ACCESS, and it is SUCCESS: ipi APU INIT_FINALIZE"])
+
+    def test_in_json(self):
+        path = self.script("ipi 1 21 # expect answer NO_ACCESS, answer SUCCESS\n")
+        status, output, _ = view("test", "--json", LABORATORY, path)
+        (found,) = json.loads(output)
+        self.assertEqual((status, found["exit"], found["said"]), (104, 104, f"{path}: 1 of 2 expectations met"))
+        self.assertEqual(found["expectations"][1], {"line": 1, "place": f"{path}:1", "expected": "answer SUCCESS", "difference": None})
+        self.assertIn("and it is SUCCESS", found["expectations"][0]["difference"])
 
     def test_another_topology(self):
         path = self.script("ipi 1 17 1034 1 # expect answer INVALID_NODE\n")
