@@ -107,15 +107,21 @@ def shown(source: Optional[str]) -> str:
     return f"topologies/{os.path.basename(source)}" if os.path.dirname(source) == FOLDER else faults.name_of(source)
 
 
-def chosen(path: str, found: objects.Object, words: Sequence[str] = ()) -> Board:
-    """The object of a file over the topology that the last word of a view names. If none is named it is that of the
-    published reset lines if the object has records of them, else the program's own."""
+def chosen_for(paths: Sequence[str], found: Sequence[objects.Object], words: Sequence[str]) -> list[Board]:
+    """The objects of some files over the topology that the last word of a view names. If none is named it is that of the
+    published reset lines if an object has records of them, else the program's own."""
     own = read()
-    lines = published_lines(found, own)
+    lines = {line for each in found for line in published_lines(each, own)}
     source = words[0] if words else PUBLISHED if lines else None
-    if source is not None:
-        judged(path, found, source)
-    board = Board(found, own if source is None else read(source))
+    for path, each in zip(paths, found):
+        if source is not None:
+            judged(path, each, source)
+    chip = own if source is None else read(source)
     if lines:
         tell(f"pmu: the object has records of {len(lines)} published reset lines; it is judged over {shown(source)}")
-    return board
+    return [Board(each, chip) for each in found]
+
+
+def chosen(path: str, found: objects.Object, words: Sequence[str] = ()) -> Board:
+    """The object of a file over the topology that the last word of a view names, or over the one that fits it."""
+    return chosen_for([path], [found], words)[0]

@@ -19,7 +19,7 @@ from object_faults import object_sentence, text_cause
 STANDARD_INPUT = "/dev/stdin"
 HELP = "./pmu --help has the forms"
 # The first words that the wrapper takes besides those of the program.
-OTHER_WORDS = ("--prove", "--proved", "--help", "--version", "--names", "--numbers", "--vcd", "--svg", "--dot", "from-c", "lint", "policy", "diff", "names")
+OTHER_WORDS = ("--prove", "--proved", "--help", "--version", "--names", "--numbers", "--vcd", "--svg", "--dot", "from-c", "lint", "policy", "diff", "compare", "names")
 
 
 class Run:

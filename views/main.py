@@ -32,6 +32,7 @@ VIEWS = {
     "lint": "lint",
     "policy": "policy",
     "diff": "diff",
+    "compare": "compare",
     "names": "names",
     "import": "import_log",
     "test": "testing",

@@ -1,26 +1,28 @@
-"""`policy OBJ FILE [TOPO]`: whether an object keeps the rules of a file.
+"""`policy [--repair] OBJ FILE [TOPO]`: whether an object keeps the rules of a file.
 
 A rule is a line: `never MASTER KIND UNIT`, that the unit isn't in the reach of the master, or `only MASTER KIND UNIT`, that
 it is in no other master's reach. KIND is `master`, `slave`, `power` or `line`. A record that gives a master something of
 which the topology doesn't say what it is, isn't judged: a line `allow MASTER WHAT` takes that, by its name or a pattern.
 Names and numbers are read, and `#` begins a comment. The view ends with BROKEN if a rule is broken, and else with
-NOT_JUDGED if a record wasn't judged and isn't allowed.
+NOT_JUDGED if a record wasn't judged and isn't allowed. With `--repair` it tells the fewest records to change instead.
 """
 
 import fnmatch
 import os
-from typing import Iterator, NamedTuple, Optional, Sequence
+from typing import Iterable, Iterator, NamedTuple, Optional, Sequence
 
 import chip as chips
 import faults
+import lines
 import names
 import objects
 import permits
 import program
+import repair
 from chip import Board, Chip
 from forms import BROKEN, NOT_JUDGED
 
-USAGE = "usage: ./pmu policy OBJ FILE [TOPO]"
+USAGE = "usage: ./pmu policy [--repair] OBJ FILE [TOPO]"
 
 FORMS = "never MASTER KIND UNIT, only MASTER KIND UNIT or allow MASTER WHAT"
 
@@ -62,12 +64,8 @@ class Policy(NamedTuple):
 
 def number_of(kind: str, word: str) -> Optional[int]:
     """The number that a word means as a node or a line, or None."""
-    if word.isascii() and word.isdigit():
-        return int(word) if len(word) <= 10 else None
-    try:
-        return int(word, 16) if word.lower().startswith("0x") else names.number_of(kind, word)
-    except ValueError:
-        return None
+    number = lines.number_of(word)
+    return names.number_of(kind, word) if number is None else number
 
 
 def is_unit(chip: Chip, kind: str, number: int) -> bool:
@@ -124,12 +122,12 @@ def add(policy: Policy, place: str, words: Sequence[str], board: Board) -> None:
 def read(path: str, board: Board) -> Policy:
     """The rules of a file. One without a rule is refused: it would check nothing."""
     try:
-        lines = program.read_file(path).decode("ascii").splitlines()
+        text = program.read_file(path).decode("ascii")
     except UnicodeDecodeError as fault:
         raise program.BadUse(f"{faults.name_of(path)}: byte {fault.start} isn't ASCII") from None
     policy = Policy([], [])
-    for number, line in enumerate(lines, 1):
-        words = line.split("#")[0].split()
+    for number, line in enumerate(text.split("\n"), 1):
+        words = lines.words_of(line)
         if words:
             add(policy, f"{faults.name_of(path)}:{number}", words, board)
     if not policy.rules:
@@ -146,12 +144,23 @@ def reaches_of(path: str, board: Board) -> dict[int, set[tuple[str, int]]]:
     return {master: {(member.kind, member.number) for member in members} for master, members in found.items()}
 
 
+def asked_of(rule: Rule, masters: Iterable[int]) -> list[int]:
+    """The masters in whose reach the unit of a rule must not be."""
+    if rule.word == "never":
+        return [rule.master]
+    return [master for master in masters if master != rule.master and (rule.kind != "master" or master != rule.unit)]
+
+
 def breached_by(rule: Rule, reaches: dict[int, set[tuple[str, int]]]) -> list[int]:
     """The masters in whose reach the unit is, and shouldn't be."""
-    asked = [rule.master] if rule.word == "never" else [master for master in reaches if master != rule.master]
-    if rule.word == "only" and rule.kind == "master":
-        asked = [master for master in asked if master != rule.unit]
-    return [master for master in asked if (rule.kind, rule.unit) in reaches[master]]
+    return [master for master in asked_of(rule, reaches) if (rule.kind, rule.unit) in reaches[master]]
+
+
+def questions_of(policy: Policy, board: Board) -> list[repair.Question]:
+    """What must not be in which reach, by all rules."""
+    masters = permits.masters(board)
+    found = [repair.Question(master, rule.kind, rule.unit) for rule in policy.rules for master in asked_of(rule, masters)]
+    return list(dict.fromkeys(found))
 
 
 def ways_to(board: Board, master: int, kind: str, unit: int) -> list[tuple[int, ...]]:
@@ -255,11 +264,14 @@ def report(board: Board, policy: Policy, reaches: dict[int, set[tuple[str, int]]
 
 def main(words: Sequence[str]) -> int:
     """Judges an object by the rules of a file, and gives the status."""
-    if len(words) not in (2, 3):
+    rest = [word for word in words if word != "--repair"]
+    if len(rest) not in (2, 3) or len(words) - len(rest) > 1:
         raise program.BadUse(USAGE)
-    path, file, *topology = words
+    path, file, *topology = rest
     board = chips.chosen(path, objects.load(path), topology)
     policy = read(file, board)
     shown, status = report(board, policy, reaches_of(path, board))
+    if len(rest) < len(words):
+        shown = repair.lines(board, questions_of(policy, board))
     print("".join(line + "\n" for line in shown), end="")
     return status

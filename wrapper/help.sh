@@ -26,13 +26,15 @@ Views of what it reads and writes, in other ways:
        ./pmu --dot reach OBJ NODE       a graph, for Graphviz
        ./pmu from-c FILE.c              the object of the C file of the vendor's tools; with -o OBJ, as a file
        ./pmu lint [--strict] OBJ        what the program passes over in an object; strict: exit 102 if there is any
-       ./pmu policy OBJ FILE            judges what each master can reach by the rules of a file; exit 101 if one is broken
+       ./pmu policy [--repair] OBJ FILE    judges what each master can reach by the rules of a file; exit 101 if one is broken
        ./pmu diff OBJ SCRIPT NODE       a script with and without the messages of a master
+       ./pmu compare OBJ OBJ            what two objects permit otherwise; exit 102 if anything
        ./pmu import LOG                 the calls of a board's log as a script, with the answers that the log has
        ./pmu test OBJ SCRIPT..          judges runs by what is expected in comments or SCRIPT.expect; exit 104 if one differs
        ./pmu dts OBJ TREE [TOPO]        what Linux asks for by a device tree, and what is refused; exit 102 if anything is
        ./pmu report OBJ [SCRIPT] -o FILE.html    a page of who can reach whom, the script's wave, and each line in names
        ./pmu names                      the names of nodes, reset lines, calls, clocks and words, with their numbers
+       the views of an object take a TOPO as one word more too, and tell which one it was over the board's reset lines
 docs/VIEWS.md and docs/OBJECTS.md explain them. Nothing is proved of them.
 
 A file - is standard input. With -o FILE (--output FILE), anywhere among the words, what is written goes to FILE, which
@@ -45,7 +47,7 @@ The proof takes two hours of a processor: two processors take about an hour.
 exit   0 all was written                  7 the script is too long
        1 no such form of words            8 a bad text, topology, master or number
        2 a bad object                     101 policy: a rule is broken
-       3 a bad line of the script         102 lint --strict, dts: something was found
+       3 a bad line of the script         102 lint --strict, dts, compare: something was found
        4 an input can't be read           103 policy: a record gives something that wasn't judged; test: nothing is expected
        5 the output can't be written      125 there is no program, or a view can't do what its words ask for
        6 want of memory                   104 test: a run differs from what is expected

@@ -6,7 +6,7 @@ import unittest
 import names
 import permits
 from common import JUDGED, Case, board_of, examples, program, view
-from forms import BROKEN, NOT_JUDGED
+from forms import BROKEN, NOT_JUDGED, UNREADABLE
 
 TEXT = """header
 section masters
@@ -180,8 +180,8 @@ class Policy(Case):
 
     def test_bad_use(self):
         for words in ([], ["a"], ["a", "b", "c", "d"]):
-            self.assertEqual(self.refused("policy", *words), "pmu: usage: ./pmu policy OBJ FILE [TOPO]")
-        self.assertEqual(view("policy", self.path, self.path + ".none")[:2], (4, b""))
+            self.assertEqual(self.refused("policy", *words), "pmu: usage: ./pmu policy [--repair] OBJ FILE [TOPO]")
+        self.assertEqual(view("policy", self.path, self.path + ".none")[:2], (UNREADABLE, b""))
         self.assertEqual(view("policy", self.file("bad.obj", b"abc"), "none")[:2], (2, b"fault object 1 0\n"))
 
 
