@@ -44,7 +44,8 @@ _FORMS = re.compile(
 
 def _lines(file: str, text: str) -> Iterator[list[Token]]:
     """The tokens, line by line. A line that goes on after a backslash, or within a comment, is one line."""
-    number, tokens = 1, []
+    number = 1
+    tokens: list[Token] = []
     for found in _FORMS.finditer(text):
         kind = found.lastgroup or ""
         if kind == "open":

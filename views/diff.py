@@ -14,14 +14,15 @@ from typing import NamedTuple
 import annotate
 import chip as chips
 import moves
+import lines as texts
 import names
 import objects
 import permits
 import program
+import replay_meanings
 import split
 import steps
 import to_names
-import to_numbers
 
 USAGE = "usage: ./pmu diff OBJ SCRIPT NODE [TOPO]"
 
@@ -50,7 +51,7 @@ def is_call(line):
 
 def is_from(line, node):
     """Whether a line is a message of a master, or a power call that is sent as messages of it."""
-    message = annotate.message_of(line)
+    message = replay_meanings.message_of(line)
     return message[0] == node if message else node == split.CALLER and is_call(line)
 
 
@@ -94,8 +95,8 @@ def words_of(chip, run, node, count):
     """Of each line: the starts, answers and callbacks by what they are about. What the master is told by a message of its
     own, which the other run lacks, is left out."""
     told, found = run.replay, [{} for _ in range(count + 1)]
-    senders = [(annotate.message_of(line) or [None])[0] for line in told.script]
-    for line, meaning in zip(told.cores, annotate.meanings_of_cores(chip, told.cores, told.script)):
+    senders = [(replay_meanings.message_of(line) or [None])[0] for line in told.script]
+    for line, meaning in zip(told.cores, replay_meanings.meanings_of_cores(chip, told.cores, told.script)):
         step, kind, *rest = line.split()
         if step == "end" or kind not in ("run", "reply", "call", "drop"):
             continue
@@ -254,7 +255,7 @@ def main(words):
         # (it judges all three, and what it says of a fault is handed on)
         judged = ["isolate", path, script, annotate.node_in_numbers(word), *board.chip.words()]
         program.run(judged, ["isolate", path, file, word, *board.chip.words()])
-        node = to_numbers.value_of(judged[3])
+        node = texts.number_of(judged[3])
         first = re.sub(rb"\r(?=\n|\Z)", b"", content)
         second, silenced = without_messages(first, node)
         runs = [steps.steps_of(steps.Run(path, board.chip, room), each) for each in (first, second)]

@@ -3,10 +3,12 @@
 The numbers are the program's own: of a bad object those of `print`, of a bad text those of `build`. Which line of a
 script is bad is looked for in the script, by the same table of lines and causes, since a run can be long.
 """
+
 import errno
 import os
 import stat
 import subprocess
+from typing import TYPE_CHECKING, Optional, Sequence
 
 from forms import (
     BAD_LINE, BAD_OBJECT, BAD_TEXT, FORMS, LIMITS, MOST_LINES, NO_MEMORY, TOO_LARGE, UNREADABLE, UNWRITABLE, USAGE, files_of, form_of,
@@ -16,38 +18,44 @@ from grammar import SCRIPT, TOPOLOGY
 from lines import count, first_fault, like, number_of, words_of
 from object_faults import object_sentence, text_cause
 
+if TYPE_CHECKING:
+    from target import Target
+
 STANDARD_INPUT = "/dev/stdin"
 HELP = "./pmu --help has the forms"
 # The first words that the wrapper takes besides those of the program.
-OTHER_WORDS = ("--prove", "--proved", "--help", "--version", "--names", "--numbers", "--vcd", "--svg", "--dot", "from-c", "lint", "policy", "diff", "compare", "names")
+OTHER_WORDS = (
+    "--prove", "--proved", "--help", "--version", "--program", "--names", "--numbers", "--vcd", "--svg", "--dot", "from-c", "lint",
+    "policy", "diff", "compare", "names", "import", "test", "dts", "report",
+)  # fmt: skip
 
 
 class Run:
     """A run of the program that failed: its words as they were given to it, and as the caller wrote them."""
 
-    def __init__(self, program, words, written):
+    def __init__(self, program: str, words: Sequence[str], written: Sequence[str]) -> None:
         self.program, self.words, self.written = program, words, written
         self.files = [(words[k], name_of(written[k]), kind) for k, kind in files_of(words)]
 
-    def file(self, wanted):
+    def file(self, wanted: str) -> tuple[str, str]:
         """The path and the name of the file of this kind."""
         return next((path, name) for path, name, kind in self.files if kind == wanted)
 
-    def has(self, wanted):
+    def has(self, wanted: str) -> bool:
         """Whether a file of this kind is named."""
         return wanted in (form_of(self.words) or ())
 
-    def word(self, wanted):
+    def word(self, wanted: str) -> str:
         """The word that is of this kind."""
-        return self.words[1 + form_of(self.words).index(wanted)]
+        return self.words[1 + (form_of(self.words) or ()).index(wanted)]
 
 
-def name_of(word):
+def name_of(word: str) -> str:
     """What a file is called in what is said of it."""
     return "standard input" if word in ("-", STANDARD_INPUT) else word
 
 
-def content(path, limit):
+def content(path: str, limit: int) -> Optional[bytes]:
     """The first bytes of a file; None if it can't be read, or only once, as a pipe."""
     try:
         if stat.S_ISFIFO(os.stat(path).st_mode):
@@ -58,24 +66,24 @@ def content(path, limit):
         return None
 
 
-def written_by(program, *words):
+def written_by(program: str, *words: str) -> bytes:
     """What the program writes for these words."""
     # (a file among them may be one that is open here alone)
-    how = {"stdout": subprocess.PIPE, "stderr": subprocess.DEVNULL, "close_fds": False}
-    return subprocess.run([program, *words], **how).stdout
+    given = [program, *words]
+    return subprocess.run(given, stdout=subprocess.PIPE, stderr=subprocess.DEVNULL, close_fds=False, check=False).stdout
 
 
-def last_line(program, *words):
+def last_line(program: str, *words: str) -> list[str]:
     """The words of the last line that the program writes for these words."""
     return written_by(program, *words)[-100:].decode("latin-1").strip().rpartition("\n")[2].split()
 
 
-def first_words(data):
+def first_words(data: bytes) -> list[str]:
     """The words of the first line of a text that has any."""
     return next(filter(None, (words_of(line) for line in data[:4096].split(b"\n"))), [])
 
 
-def kind_of(data):
+def kind_of(data: bytes) -> Optional[str]:
     """What a file of bytes looks like, in words, or None."""
     word = (first_words(data) or [""])[0]
     if not data:
@@ -99,7 +107,7 @@ def kind_of(data):
     return None
 
 
-def misplaced(name, data, wanted):
+def misplaced(name: str, data: bytes, wanted: str) -> Optional[str]:
     """The sentence for a file of another kind than is wanted, or None."""
     kind = kind_of(data)
     word = "-" if name == name_of(STANDARD_INPUT) else name
@@ -110,14 +118,13 @@ def misplaced(name, data, wanted):
         ("is an object", "a script"): "; the object comes before the script",
         ("is a script", "an object"): "; the object comes before the script",
     }
-    return kind and kind != wanted_kind(wanted) and f"{name} {kind}, and {wanted} is wanted" + advice.get((kind, wanted), "")
+    if not kind or kind == f"is {wanted}":
+        return None
+    return f"{name} {kind}, and {wanted} is wanted" + advice.get((kind, wanted), "")
 
 
-def wanted_kind(wanted):
-    return f"is {wanted}"
-
-
-def usage(run):
+def usage(run: Run) -> str:
+    """What is wrong with words that have no form."""
     written = run.written
     if not written:
         return f"no words are given: {HELP}"
@@ -130,7 +137,7 @@ def usage(run):
     return f"'{first}' takes {taken_by(first)}, and {given} {'is' if given == 1 else 'are'} given"
 
 
-def taken_by(first):
+def taken_by(first: str) -> str:
     """What the words after a first one name, and how many they are."""
     forms = forms_of(first)
     names = " ".join(forms[0])
@@ -139,7 +146,8 @@ def taken_by(first):
     return f"{names}, which is {count(len(forms[0]), 'word')}" if names else "no word after it"
 
 
-def bad_object(run):
+def bad_object(run: Run) -> str:
+    """What is wrong with an object."""
     path, name = run.file("OBJ")
     data = content(path, LIMITS["OBJ"] + 1)
     if data is None:
@@ -154,22 +162,23 @@ def bad_object(run):
     return f"{name}: {object_sentence(cause, offset, data)}"
 
 
-def bad_line(run):
+def bad_line(run: Run) -> str:
+    """What is wrong with the first line of a script that has no meaning."""
     path, name = run.file("SCRIPT")
     data = content(path, LIMITS["SCRIPT"] + 1)
-    found = data and first_fault(data)
-    if not found:
+    found = first_fault(data) if data else None
+    if data is None or not found:
         return f"{name}: a line has no meaning, as the fault line says (the script can't be read again for more)"
     number, cause, sentence = found
     kind = kind_of(data)
     if cause in (4, 5) and kind in ("is an object", "is an ELF file") or cause == 1 and kind in ("is a C file", "is the text of an object"):
-        return misplaced(name, data, "a script")
+        return misplaced(name, data, "a script") or sentence
     if number == 1 and data.startswith(b"\xef\xbb\xbf"):
         sentence = "the file begins with a byte order mark, and only ASCII is read"
     return f"{name}:{number}: {sentence}"
 
 
-def unread(path, name):
+def unread(path: str, name: str) -> Optional[str]:
     """Why a file can't be read, or None if it can."""
     if name == path and not os.path.lexists(path):
         folder, wanted = os.path.split(path)
@@ -190,7 +199,8 @@ def unread(path, name):
     return None
 
 
-def unreadable(run):
+def unreadable(run: Run) -> str:
+    """Which input can't be read, and why."""
     whys = [unread(path, name) for path, name, _ in run.files]
     path, name, _ = run.files[0]
     if whys[0] and number_of(path) is not None and "NODE" in FORMS[run.words[0]]:
@@ -198,7 +208,7 @@ def unreadable(run):
     return next(filter(None, whys), f"{' or '.join(name for _, name, _ in run.files)} couldn't be read to its end")
 
 
-def unwritable(target):
+def unwritable(target: Optional["Target"]) -> Optional[str]:
     """Why the output couldn't be written: a write of nothing new tells it, if it still can't be. None if whoever read it
     has gone, as `head` does once it has its lines."""
     name = target.name if target else "standard output"
@@ -209,17 +219,19 @@ def unwritable(target):
     return f"{name} couldn't be written to its end"
 
 
-def not_written(name, fault):
+def not_written(name: str, fault: OSError) -> str:
     """What is said of an output by the fault of a write."""
     return f"{name} can't be written: {fault.strerror}"
 
 
-def too_large(run):
+def too_large(run: Run) -> str:
+    """Which script is too long."""
     path, name = run.file("SCRIPT")
     return f"{name}: the script has more than {LIMITS['SCRIPT']} bytes"
 
 
-def no_master(run):
+def no_master(run: Run) -> str:
+    """What is wrong with the word for a master."""
     path, name = run.file("OBJ")
     lines = (words_of(line) for line in written_by(run.program, "print", path).split(b"\n"))
     nodes = [words[1] for words in lines if words[:1] == ["master"]]
@@ -230,7 +242,7 @@ def no_master(run):
     return f"node {node} is no master of {has}"
 
 
-def topology_text_cause(number, cause, lines):
+def topology_text_cause(number: int, cause: int, lines: Sequence[bytes]) -> str:
     """The sentence of a cause of a bad text of a topology at a line."""
     if number == 0:
         return f"it has more than {LIMITS['TOPO']} bytes"
@@ -259,12 +271,13 @@ TOPOLOGY_RULES = {
 }
 
 
-def bad_topology(run, said):
+def bad_topology(run: Run, said: Sequence[str]) -> str:
+    """What is wrong with the text of a topology, by the words of its fault line."""
     path, name = run.file("TOPO")
     data = content(path, LIMITS["TOPO"] + 1)
     cause, number = (int(said[2]), int(said[3])) if said[1] == "topology" else (int(said[3]), int(said[2]))
-    other = data is not None and misplaced(name, data, "the text of a topology")
-    if other and kind_of(data) != "is a text":
+    other = misplaced(name, data, "the text of a topology") if data is not None else None
+    if other and data is not None and kind_of(data) != "is a text":
         return other
     if said[1] == "topology":
         return f"{name}: the entry at place {number} of its list, counted from 0: {TOPOLOGY_RULES[cause]}"
@@ -274,7 +287,7 @@ def bad_topology(run, said):
     return f"{name}{f':{number}' if number else ''}: {topology_text_cause(number, cause, lines)}"
 
 
-def bad_word(run):
+def bad_word(run: Run) -> str:
     """What is wrong with the topology or the word of a master."""
     if run.has("TOPO"):
         said = last_line(run.program, "reach", run.file("OBJ")[0], "none", run.file("TOPO")[0])
@@ -285,7 +298,8 @@ def bad_word(run):
     return no_master(run)
 
 
-def bad_text(run):
+def bad_text(run: Run) -> str:
+    """What is wrong with the text of an object."""
     path, name = run.file("TEXT")
     data = content(path, LIMITS["TEXT"] + 1)
     if data is None:
@@ -298,7 +312,7 @@ def bad_text(run):
     if number == 0:
         return f"{name}: the text has more than {LIMITS['TEXT']} bytes"
     if cause == 1 and kind in ("is an object", "is an ELF file", "is a C file", "is a script") or kind == "is empty":
-        return misplaced(name, data, "the text of an object")
+        return misplaced(name, data, "the text of an object") or f"{name} is no text of an object"
     if cause == 1 and number == 1 and data.startswith(b"\xef\xbb\xbf"):
         return f"{name}:1: the file begins with a byte order mark, and only ASCII is read"
     lines = data.split(b"\n")
@@ -310,7 +324,7 @@ def bad_text(run):
     return f"{where}: {text_cause(cause, lines[: number - 1], line, is_end)}"
 
 
-def sentence(program, words, written, status, target):
+def sentence(program: str, words: Sequence[str], written: Sequence[str], status: int, target: Optional["Target"]) -> Optional[str]:
     """What is wrong, in one line, after a run of the program with these words that ended so."""
     run = Run(program, words, written)
     if status == UNWRITABLE:
@@ -328,7 +342,7 @@ def sentence(program, words, written, status, target):
     return tell[status](run) if status in tell else f"the program ended with {status}, which is none of its exits"
 
 
-def told(program, words, written, status, target):
+def told(program: str, words: Sequence[str], written: Sequence[str], status: int, target: Optional["Target"]) -> Optional[str]:
     """That sentence, or, if it can't be found, that the program ended so; None if nothing is to be said."""
     try:
         return sentence(program, words, written, status, target)

@@ -51,11 +51,12 @@ def write_out(output: bytes) -> None:
 
 def output_of(view: View, words: list[str]) -> tuple[int, bytes]:
     """The exit of a view, and what it writes. A name of a file that isn't UTF-8 is written as it is."""
-    file = io.TextIOWrapper(io.BytesIO(), "utf-8", "surrogateescape", newline="\n")
+    written = io.BytesIO()
+    file = io.TextIOWrapper(written, "utf-8", "surrogateescape", newline="\n")
     with contextlib.redirect_stdout(file):
         status = view(words)
     file.flush()
-    return status, file.buffer.getvalue()
+    return status, written.getvalue()
 
 
 def write_to(name: str, view: View, words: list[str]) -> int:

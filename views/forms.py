@@ -1,7 +1,9 @@
 """The words that the program takes, its exits, and those of the views."""
 
+from typing import Optional, Sequence
+
 # Each form: its first word, and what the words after it name.
-FORMS = {
+FORMS: dict[str, tuple[str, ...]] = {
     "replay": ("OBJ", "SCRIPT"),
     "reach": ("OBJ", "NODE"),
     "isolate": ("OBJ", "SCRIPT", "NODE"),
@@ -30,20 +32,20 @@ LIMITS = {"OBJ": 16_384, "TEXT": 1_048_576, "TOPO": 1_048_576, "SCRIPT": 67_108_
 MOST_LINES = 200_000
 
 
-def form_of(words):
+def form_of(words: Sequence[str]) -> Optional[tuple[str, ...]]:
     """What the words after the first one name, or None if the words have no form."""
     forms = [names for names in forms_of(words[0]) if len(names) == len(words) - 1] if words else []
     return forms[0] if forms else None
 
 
-def forms_of(first):
+def forms_of(first: str) -> list[tuple[str, ...]]:
     """What the words after this first one may name, once for each number of words."""
     if first not in FORMS:
         return []
     return [FORMS[first], (*FORMS[first], "TOPO")] if first in WITH_TOPOLOGY else [FORMS[first]]
 
 
-def files_of(words):
+def files_of(words: Sequence[str]) -> list[tuple[int, str]]:
     """The files that the words name, each as its place among the words and its kind, in the order in which they are read."""
     names = form_of(words) or ()
     return sorted(((k, kind) for k, kind in enumerate(names, 1) if kind in LIMITS), key=lambda file: [*LIMITS].index(file[1]))

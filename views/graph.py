@@ -11,10 +11,10 @@ from typing import Callable, Iterator, NamedTuple, Optional, Sequence
 
 import annotate
 import chip as chips
+import lines as texts
 import names
 import objects
 import permits
-import to_numbers
 from chip import Board, Chip
 from program import BadUse, run
 
@@ -211,7 +211,7 @@ def main(words: Sequence[str]) -> int:
     node = annotate.node_in_numbers(word)
     # (it judges the node, and what it says of a fault is handed on)
     run(["reach", obj, node, *board.chip.words()], ["reach", obj, word, *board.chip.words()])
-    start = to_numbers.value_of(node)
+    start = texts.number_of(node)
     members = permits.checked_reach(obj, board, start)
     graph = graph_of(board, members, has_all)
     sys.stdout.writelines(line + "\n" for line in lines_of(graph, start, has_all))

@@ -3,7 +3,7 @@
 What is said of a line follows from its words, the object and the chip alone.
 """
 
-from typing import Iterator, NamedTuple, Optional, Sequence
+from typing import Iterable, Iterator, NamedTuple, Optional, Sequence
 
 import grammar
 import lines as texts
@@ -132,7 +132,7 @@ def idle(board: Board, script: Sequence[str], written: Sequence[str]) -> Iterato
             filled = words[0] == "post" and (filled or numbers[0] in permits.masters(board))
 
 
-def told_once(found: Sequence[Idle]) -> Iterator[str]:
+def told_once(found: Iterable[Idle]) -> Iterator[str]:
     """What is said of silent lines, with the first line of each sentence and how many more there are."""
     places: dict[tuple[str, str], list[int]] = {}
     for each in found:

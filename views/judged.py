@@ -6,9 +6,9 @@ device after a line are those of the closing table of the script up to that line
 
 from typing import Callable, Optional
 
-import annotate
 import lines
 import names
+import replay_meanings
 import to_numbers
 from chip import Chip
 from expectations import Clause
@@ -115,13 +115,13 @@ def word_of_answer(chip: Chip, message: list[int], place: int, word: str) -> int
 
 def answer(run: Run, step: int, wanted: tuple) -> Optional[str]:
     """The answer to the message of the line: a reply, or with acknowledge kind 3 the callback 31."""
-    message = annotate.message_of(run.script[step - 1]) if step else None
+    message = replay_meanings.message_of(run.script[step - 1]) if step else None
     if not message or run.script[step - 1].split()[0] != "ipi":
         raise Unread("the line sends no message")
     if run.wrote(step, "drop"):
         return None if wanted[0] == "none" else f"{names.node_name(message[0])} isn't heard"
-    found = [reply[1:] for reply in run.wrote(step, "reply") if reply[0] == message[0] and annotate.is_answered(message)]
-    found += [call[3:] for call in run.wrote(step, "call") if call[:2] == [message[0], 31] and not annotate.is_answered(message)]
+    found = [reply[1:] for reply in run.wrote(step, "reply") if reply[0] == message[0] and replay_meanings.is_answered(message)]
+    found += [call[3:] for call in run.wrote(step, "call") if call[:2] == [message[0], 31] and not replay_meanings.is_answered(message)]
     numbers = [word_of_answer(run.chip, message, place, word) for place, word in enumerate(wanted[1:])]
     return of_a_reply(found[-1] if found else None, wanted, numbers)
 

@@ -33,7 +33,7 @@ VIEWS = {
     "policy": "policy",
     "diff": "diff",
     "compare": "compare",
-    "names": "names",
+    "names": "name_list",
     "import": "import_log",
     "test": "testing",
     "dts": "dts",

@@ -7,7 +7,7 @@ that line has it. The script has no line that breaks a node, so that the device 
 
 from typing import Optional, Sequence
 
-import to_numbers
+import lines as texts
 from program import BadUse, Failed, run_text
 from replays import Run, Unit, closing_of, content_of, master_masks
 
@@ -42,7 +42,7 @@ def awake(changes: Sequence[Sequence[tuple[Unit, int]]], owner: dict[int, int]) 
 
 def changed_by(line: str, procs: list[int]) -> list[int]:
     """Those of the processors whose mode a line of a script may change."""
-    words = [to_numbers.value_of(word) if place else word for place, (_, word) in enumerate(to_numbers.words_of(line))]
+    words = [texts.number_of(word) if place else word for place, word in enumerate(texts.words_of(line))]
     if words and words[0] in ("boot", "wfi", "gic"):
         return [proc for proc in procs if proc == words[1]]
     if words and (words[0] == "irq" or words[0] == "ipi" and words[2] in CHANGING):
@@ -88,7 +88,7 @@ def without_a_master(run: Run, script: list[str], step: int, before: Modes, was_
     if not was_heard or not words:
         return before
     if words[0] == "wfi":
-        proc = to_numbers.value_of(words[1])
+        proc = texts.number_of(words[1])
         return before | ({proc: ASLEEP} if before.get(proc) == SUSPENDING else {})
     table = closing_of(run.lines_of(content_of(script[:step])))
     return {proc: table.get(Unit("node", proc), (0, 0))[0] for proc in before}

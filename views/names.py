@@ -4,15 +4,12 @@ One table, which all views use. A name is written as UG1200 has it, without its 
 name is read, the prefixes of UG1200, of Linux (include/dt-bindings/power/xlnx-zynqmp-power.h,
 include/dt-bindings/reset/xlnx-zynqmp-resets.h) and of TF-A (plat/xilinx/zynqmp/pm_service) may stand before it.
 
-`./pmu names` writes them all, and `python3 views/names.py` those that docs/FORMATS.md has.
+`./pmu names` writes them all (`views/name_list.py`).
 """
 
-import textwrap
-from typing import Any, Iterator, NamedTuple, Optional
+from typing import NamedTuple, Optional
 
-import findings
 import topology
-from program import BadUse
 
 
 class Node(NamedTuple):
@@ -353,7 +350,7 @@ def number_of(kind: str, name: str) -> Optional[int]:
         if name.startswith(PREFIXES["reset"]):
             return number_of("reset", name)
         number = number_of("node", name)
-        return number if is_line(number) else None
+        return number if number is not None and is_line(number) else None
     numbers, others = _BY_NAME.get(kind, {}), ALIASES.get("node" if kind == "clock" else kind, {})
     for prefix in ("", *PREFIXES.get("node" if kind == "clock" else kind, ())):
         if name.startswith(prefix):
@@ -362,74 +359,3 @@ def number_of(kind: str, name: str) -> Optional[int]:
             if rest in numbers:
                 return numbers[rest]
     return None
-
-
-def written(kind: str, number: int) -> str:
-    """A number as it is written beside its name: that of a function of PSCI in hexadecimal."""
-    return f"{number:#x}" if kind == "function" else str(number)
-
-
-class Row(NamedTuple):
-    """A name with its number, and what else is known of it."""
-
-    kind: str  # one word
-    number: int
-    name: str
-    more: str  # with the comma or the colon before it
-
-    def __str__(self) -> str:
-        return f"{self.kind} {written(self.kind, self.number)} {self.name}{self.more}"
-
-
-def rows() -> Iterator[Row]:
-    """Each name with its kind and its number."""
-    for node in NODES.values():
-        yield Row("node", node.number, node.name, ", not in the table of the chip" * (node.kind == "absent"))
-    for number in RESETS:
-        yield Row("line", number, line_name(number), ", not in the table of the chip")
-    for kind, table in (("call", CALLS), ("callback", CALLBACKS)):
-        for call in table.values():
-            arguments = ", not served" if call.arguments is None else ": " * bool(call.arguments) + ", ".join(call.arguments)
-            yield Row(kind, call.number, call.name, arguments)
-    for number, clock in CLOCKS.items():
-        yield Row("clock", number, clock_name(number), ": " + (", ".join(map(clock_name, clock.parents)) or "a root"))
-    for kind, words in WORDS.items():
-        for number, name in words.items():
-            yield Row(kind.replace(" ", "-"), number, name, "")
-
-
-def lines() -> Iterator[str]:
-    """A line each."""
-    return map(str, rows())
-
-
-def in_json() -> list[dict[str, Any]]:
-    """Each name as keys and values."""
-    return [{**row._asdict(), "more": row.more.lstrip(",: ")} for row in rows()]
-
-
-def markdown() -> str:
-    """The names that docs/FORMATS.md has: the clocks, and the words of arguments, records and statuses."""
-    roots = ", ".join(f"{number} {clock_name(number)}" for number in CLOCKS if is_root(number))
-    others = [number for number in CLOCKS if not is_root(number)]
-    fed = ", ".join(f"{number} {clock_name(number)} ({', '.join(map(clock_name, CLOCKS[number].parents))})" for number in others)
-    clocks = f"The roots are {roots}; the other clocks, with their parents by index, {fed}."
-    words = [f"- {kind}: " + ", ".join(f"{written(kind, number)} {name}" for number, name in table.items()) for kind, table in WORDS.items()]
-    return "\n".join([_wrapped(clocks), "", *map(_wrapped, words)]) + "\n"
-
-
-def _wrapped(text: str) -> str:
-    """A paragraph, or an item of a list, in lines of the documents."""
-    return textwrap.fill(text, 118, subsequent_indent="  " * text.startswith("- "))
-
-
-def main(words: list[str]) -> int:
-    """`names [--json]`: each name, on a line of its own."""
-    if words not in ([], ["--json"]):
-        raise BadUse("names takes no words but --json: search what it writes")
-    print(findings.in_json(in_json()) if words else "".join(line + "\n" for line in lines()), end="")
-    return 0
-
-
-if __name__ == "__main__":
-    print(markdown(), end="")

@@ -247,9 +247,8 @@ def read(path: str) -> Object:
     try:
         return decode(data)
     except Fault as fault:
-        if data and is_text(data):
-            fault = "this is a text, and no object: ./pmu build or ./pmu from-c makes one of it"
-        raise program.BadUse(f"{faults.name_of(path)}: {fault}") from None
+        is_said = "this is a text, and no object: ./pmu build or ./pmu from-c makes one of it" if data and is_text(data) else str(fault)
+        raise program.BadUse(f"{faults.name_of(path)}: {is_said}") from None
 
 
 def load(path: str) -> Object:

@@ -24,7 +24,7 @@ class Unread(BadUse):
 class Failed(Exception):
     """The program ended with another status than 0: its output and its status are handed on, with a line in words."""
 
-    def __init__(self, output: bytes, status: int, sentence: str) -> None:
+    def __init__(self, output: bytes, status: int, sentence: Optional[str]) -> None:
         super().__init__(status)
         self.output, self.status, self.sentence = output, status, sentence
 

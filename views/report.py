@@ -12,12 +12,14 @@ from typing import Iterable, Iterator, Optional
 import annotate
 import chip as chips
 import faults
+import meanings
 import names
 import objects
 import page
 import permits
 import picture
 import policy
+import replay_meanings
 import steps
 import testing
 import to_names
@@ -48,7 +50,7 @@ def cell(said: Optional[str], detail: str = "") -> str:
 
 def meaning(member: permits.Member) -> str:
     """A member of a reach in words."""
-    return annotate.meaning_of_reached(str(member))
+    return meanings.meaning_of_reached(str(member))
 
 
 def of_masters(reaches: dict[int, list[permits.Member]]) -> str:
@@ -59,7 +61,7 @@ def of_masters(reaches: dict[int, list[permits.Member]]) -> str:
         cells = []
         for other in reaches:
             member = found.get(other)
-            said = None if member is None else "itself" if other == start else annotate.WHY_MASTER[member.why].split(",")[0]
+            said = None if member is None else "itself" if other == start else meanings.WHY_MASTER[member.why].split(",")[0]
             way = "" if member is None or len(member.path) < 3 else f" (by {', '.join(map(names.node_name, member.path[1:-1]))})"
             cells.append(cell(said and said + way, meaning(member) if member else ""))
         rows.append(page.row(names.node_name(start), cells))
@@ -76,7 +78,7 @@ def of_units(reaches: dict[int, list[permits.Member]], chip: chips.Chip, kind: s
             for member in of_unit:
                 by = names.node_name(member.path[-1]) if member and len(member.path) > 1 else ""
                 cells.append(cell(member and (f"by {by}: " * bool(by) + SHORT[member.why]), meaning(member) if member else ""))
-            yield page.row(annotate.named(kind, number), cells, "shared" if sum(it is not None for it in of_unit) > 1 else "")
+            yield page.row(meanings.named(kind, number), cells, "shared" if sum(it is not None for it in of_unit) > 1 else "")
 
 
 def of_reaches(path: str, board: chips.Board) -> str:
@@ -115,7 +117,7 @@ def of_policy(path: str, board: chips.Board, file: str) -> str:
 def told_by_line(run: steps.Steps, chip: chips.Chip) -> dict[str, list[tuple[str, str]]]:
     """What each line writes, with its meaning, by the number of the line; `end` has the closing table."""
     told: dict[str, list[tuple[str, str]]] = {}
-    for line, meant in zip(run.replay.lines, annotate.meanings_of_replay(chip, run.replay)):
+    for line, meant in zip(run.replay.lines, replay_meanings.meanings_of_replay(chip, run.replay)):
         told.setdefault(line.split()[0], []).append((line, meant))
     return told
 
@@ -190,7 +192,7 @@ def of_script(path: str, chip: chips.Chip, script: str) -> Iterator[tuple[str, s
 def of_object(path: str, chip: chips.Chip) -> str:
     """The section of the object's text."""
     text = run_text(["print", path])
-    shown = annotate.put_together(text, annotate.meanings_of_text(chip, text))
+    shown = annotate.put_together(text, meanings.meanings_of_text(chip, text))
     return page.tag("div", page.folded("Its records", page.tag("pre", escape("\n".join(shown)))), class_="fold")
 
 

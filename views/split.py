@@ -5,7 +5,9 @@ message, by rising mask of their masters. A power call by `smc` becomes the line
 nothing is empty.
 """
 
-import to_numbers
+from typing import Sequence
+
+import lines as texts
 
 # The master as which the boot firmware sends what a power call comes to.
 CALLER = 1
@@ -16,21 +18,21 @@ CPU_ON, AFFINITY_INFO = (0x84000003, 0xC4000003), (0x84000004, 0xC4000004)
 LOW = 0xFFFFFFFF
 
 
-def first_word(line):
+def first_word(line: str) -> str:
     """The first word of a line, or an empty one."""
-    words = to_numbers.words_of(line)
-    return words[0][1] if words else ""
+    words = texts.words_of(line)
+    return words[0] if words else ""
 
 
-def is_split(script):
+def is_split(script: Sequence[str]) -> bool:
     """Whether a line of a script isn't its own core event: it puts a message into a box, serves the boxes, or is a power
     call."""
     return any(first_word(line) in ("post", "serve", "smc") for line in script)
 
 
-def lowered(line, targets):
+def lowered(line: str, targets: Sequence[int]) -> list[str]:
     """The lines that a power call comes to. Its targets are the processors of its caller's master, by their places."""
-    words = [to_numbers.value_of(word) for _, word in to_numbers.words_of(line)[1:]]
+    words = [texts.number_of(word) or 0 for word in texts.words_of(line)[1:]]
     proc, function, first, second, _ = words + [0] * (5 - len(words))
     if proc not in targets:
         return [""]
@@ -48,32 +50,34 @@ def lowered(line, targets):
     return [""]
 
 
-def sent(line):
+def sent(line: str) -> str:
     """The message of a line `post` in a line `ipi`."""
-    start, word = to_numbers.words_of(line)[0]
+    start, word = texts.placed_words(line)[0]
     return line[:start] + "ipi" + line[start + len(word) :]
 
 
-def core_lines(line, masks, targets, boxes):
+def core_lines(line: str, masks: dict[int, int], targets: Sequence[int], boxes: dict[int, str]) -> list[str]:
     """The lines of the core events of a line. `masks` has the mask of each configured master, `targets` the processors that
     a power call may name, and `boxes` the line that sends the message of each master that has one in its box."""
     first = first_word(line)
     if first == "serve":
-        return [boxes.pop(master) for master in sorted(boxes, key=masks.get)] or [""]
+        return [boxes.pop(master) for master in sorted(boxes, key=masks.__getitem__)] or [""]
     if first == "smc":
         return lowered(line, targets)
     if first != "post":
         return [line]
-    master = to_numbers.value_of(to_numbers.words_of(line)[1][1])
+    master = texts.number_of(texts.words_of(line)[1])
     if master not in masks:
         return [sent(line)]
     boxes.setdefault(master, sent(line))
     return [""]
 
 
-def split(script, masks, targets):
+def split(script: Sequence[str], masks: dict[int, int], targets: Sequence[int]) -> tuple[list[str], list[int]]:
     """The lines of all core events, and of each of them the number of the line that it comes from."""
-    cores, numbers, boxes = [], [], {}
+    cores: list[str] = []
+    numbers: list[int] = []
+    boxes: dict[int, str] = {}
     for number, line in enumerate(script, 1):
         lines = core_lines(line, masks, targets, boxes)
         cores += lines

@@ -9,6 +9,7 @@ import functools
 import operator
 import re
 import sys
+from typing import Iterable, Optional, Sequence
 
 import faults
 import grammar
@@ -26,9 +27,6 @@ SAID = {
     "use flags": "flag of a preallocation",
 }
 
-# (for the views that aren't this one's)
-words_of, value_of, MESSAGES = lines.placed_words, lines.number_of, grammar.MESSAGES
-
 SETS = ("mask", *names.SETS)
 
 # The processors that are targets of power calls, by their places; and what the arguments of functions mean.
@@ -41,25 +39,25 @@ class Unknown(Exception):
     """A name that isn't known in its place."""
 
 
-def number_of(kind, name, masters):
+def number_of(kind: str, name: str, masters: dict[int, int]) -> Optional[int]:
     """The number of one name of a kind, or None; `masters` has the mask of each master of a text."""
     if kind == "mask":
-        return masters.get(names.number_of("node", name))
+        return masters.get(names.number_of("node", name) or -1)
     if kind == "own mask":
-        return names.IPI_MASKS.get(names.number_of("node", name))
+        return names.IPI_MASKS.get(names.number_of("node", name) or -1)
     if kind == "target":
         number = names.number_of("node", name)
         return TARGETS.index(number) if number in TARGETS else None
     return names.number_of(kind, name)
 
 
-def bits_of(kind, word, masters):
+def bits_of(kind: str, word: str, masters: dict[int, int]) -> Optional[int]:
     """The bits of a set that is written `ACCESS|CONTEXT`, with numbers between the names or not; None if one is unknown."""
     parts = [lines.number_of(part) if part[0].isdigit() else number_of(kind, part, masters) for part in word.split("|")]
     return None if None in parts else functools.reduce(operator.or_, parts)
 
 
-def translated(kind, word, masters):
+def translated(kind: str, word: str, masters: dict[int, int]) -> str:
     """A word of a kind with a number in place of its names."""
     if not NAME.fullmatch(word):
         return word
@@ -69,7 +67,7 @@ def translated(kind, word, masters):
     return str(number)
 
 
-def unknown(kind, word):
+def unknown(kind: str, word: str) -> str:
     """What is wrong with a name that its kind doesn't have."""
     if kind == "mask":
         return f"no master line of this text has the mask of {word}"
@@ -80,24 +78,24 @@ def unknown(kind, word):
     return f"the {kind} is a number, not {word}" if kind else f"a number is wanted, not {word}"
 
 
-def kinds_of_message(words):
+def kinds_of_message(words: Sequence[str]) -> tuple[str, ...]:
     """Of a line `ipi M API ..` or `post M API ..`: what its words mean, as far as its call says."""
     number = names.number_of("call", words[2]) if len(words) > 2 else None
     if number is None and len(words) > 2:
         number = lines.number_of(words[2])
-    call = names.CALLS.get(number)
+    call = names.CALLS.get(number or 0)
     return ("node", "call", *(call.arguments or () if call else ()))
 
 
-def kinds_of_power_call(words):
+def kinds_of_power_call(words: Sequence[str]) -> tuple[str, ...]:
     """Of a line `smc P FUNCTION ..`: what its words mean, as far as its function says."""
     number = names.number_of("function", words[2]) if len(words) > 2 else None
     if number is None and len(words) > 2:
         number = lines.number_of(words[2])
-    return ("node", "function", *FUNCTIONS.get(names.WORDS["function"].get(number, "").replace("_64", ""), ("argument",) * 3))
+    return ("node", "function", *FUNCTIONS.get(names.WORDS["function"].get(number or 0, "").replace("_64", ""), ("argument",) * 3))
 
 
-def too_wide(words):
+def too_wide(words: Sequence[str]) -> Optional[str]:
     """What is wrong with an argument of a function that is written by its name and takes 32 bits, or None."""
     number = names.number_of("function", words[2]) if words[0] == "smc" and len(words) > 2 else None
     if number is None or number >= 0xC0000000:
@@ -106,7 +104,7 @@ def too_wide(words):
     return f"the arguments of {words[2]} have 32 bits, and {wide[0]} has more (CPU_ON_64 and AFFINITY_INFO_64 have 64)" if wide else None
 
 
-def kinds_of(words):
+def kinds_of(words: Sequence[str]) -> Optional[tuple[str, ...]]:
     """What the words after the first one of a line mean, or None of a line that has no such first word."""
     if words[0] in grammar.MESSAGES:
         return kinds_of_message(words)
@@ -116,7 +114,7 @@ def kinds_of(words):
     return form.kinds if form and form.kinds else None
 
 
-def line_in_numbers(line, masters):
+def line_in_numbers(line: str, masters: dict[int, int]) -> str:
     """A line without its end, with numbers in place of names."""
     found = lines.placed_words(line)
     kinds = kinds_of([word for _, word in found]) if found else None
@@ -132,20 +130,20 @@ def line_in_numbers(line, masters):
     return made + line[end:]
 
 
-def masters_of(text):
+def masters_of(text: Iterable[str]) -> dict[int, int]:
     """The mask of each master, by the `master` lines of a text."""
-    masters = {}
+    masters: dict[int, int] = {}
     for line in text:
         words = lines.words_of(line)
         if len(words) > 2 and words[0] == "master":
             node = names.number_of("node", words[1]) or lines.number_of(words[1])
-            mask = names.IPI_MASKS.get(names.number_of("node", words[2])) or lines.number_of(words[2])
+            mask = names.IPI_MASKS.get(names.number_of("node", words[2]) or -1) or lines.number_of(words[2])
             if node is not None and mask is not None:
                 masters.setdefault(node, mask)
     return masters
 
 
-def in_numbers(content, name):
+def in_numbers(content: bytes, name: str) -> bytes:
     """The content of a file, a script or a text, with numbers in place of names. A fault is told with its line."""
     text = content.decode("latin-1").split("\n")
     masters, made = masters_of(text), []
@@ -157,7 +155,8 @@ def in_numbers(content, name):
     return "\n".join(made).encode("latin-1")
 
 
-def main(words):
+def main(words: list[str]) -> int:
+    """Writes a file in numbers, and gives the exit."""
     if len(words) != 1:
         raise BadUse("--numbers takes one FILE, a script or the text of an object")
     content = read_file(words[0])

@@ -12,9 +12,10 @@ import sys
 import tempfile
 from typing import Iterator, NamedTuple, Optional, Sequence
 
-import annotate
 import chip as chips
+import lines as texts
 import objects
+import replay_meanings
 import saved_view
 import split
 import steps
@@ -95,8 +96,8 @@ def declarations(chip: Chip, codes: dict[Signal, str], texts: dict[str, str], pa
 
 def ticks_of(line: str) -> int:
     """How much time passes by a line."""
-    words = [word for _, word in to_numbers.words_of(line)]
-    return to_numbers.value_of(words[1]) or 0 if split.first_word(line) == "tick" else 0
+    words = texts.words_of(line)
+    return texts.number_of(words[1]) or 0 if split.first_word(line) == "tick" else 0
 
 
 def times_of(run: steps.Steps, script: list[str], by_ticks: bool) -> Times:
@@ -155,7 +156,7 @@ def unit_changes(chip: Chip, run: steps.Steps, codes: dict[Signal, str], times: 
 def words_by_line(chip: Chip, run: steps.Steps) -> dict[str, dict[int, str]]:
     """By line what is answered and told in it, and what the device refused, in words."""
     found: dict[str, dict[int, list[str]]] = {"answer": {}, "refused": {}}
-    for line, meaning in zip(run.replay.lines, annotate.meanings_of_replay(chip, run.replay)):
+    for line, meaning in zip(run.replay.lines, replay_meanings.meanings_of_replay(chip, run.replay)):
         step, kind, *_ = line.split()
         text = "answer" if kind in ANSWERS else "refused" if kind in ("fail", "linefail") else None
         if step != "end" and text:

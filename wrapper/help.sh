@@ -25,7 +25,7 @@ Views of what it reads and writes, in other ways:
        ./pmu --svg replay OBJ SCRIPT    the waveform as a picture
        ./pmu --dot reach OBJ NODE       a graph, for Graphviz
        ./pmu from-c FILE.c              the object of the C file of the vendor's tools; with -o OBJ, as a file
-       ./pmu lint [--strict] OBJ        what the program passes over in an object; strict: exit 102 if there is any
+       ./pmu lint OBJ [SCRIPT]          what the program passes over in an object, its text or its C file, and in a script
        ./pmu policy [--repair] OBJ FILE    judges what each master can reach by the rules of a file; exit 101 if one is broken
        ./pmu diff OBJ SCRIPT NODE       a script with and without the messages of a master
        ./pmu compare OBJ OBJ            what two objects permit otherwise; exit 102 if anything
@@ -33,7 +33,7 @@ Views of what it reads and writes, in other ways:
        ./pmu test OBJ SCRIPT..          judges runs by what is expected in comments or SCRIPT.expect; exit 104 if one differs
        ./pmu dts OBJ TREE [TOPO]        what Linux asks for by a device tree, and what is refused; exit 102 if anything is
        ./pmu report OBJ [SCRIPT] -o FILE.html    a page of who can reach whom, the script's wave, and each line in names
-       ./pmu names                      the names of nodes, reset lines, calls, clocks and words, with their numbers
+       ./pmu names [--json]             the names of nodes, reset lines, calls, clocks and words, with their numbers
        the views of an object take a TOPO as one word more too, and tell which one it was over the board's reset lines
 docs/VIEWS.md and docs/OBJECTS.md explain them. Nothing is proved of them.
 

@@ -1,5 +1,6 @@
 """`--names`: the lines stay as they are, and each has its meaning behind it."""
 
+import json
 import os
 import unittest
 
@@ -293,6 +294,18 @@ class Names(Case):
         status, output, errors = view("--names", "replay", example("laboratory.obj"), script)
         self.assertEqual(len(errors.splitlines()), 1)
         self.assertTrue(errors.startswith(script.encode() + b":2: "), errors)
+
+    def test_the_lines_with_their_meanings_as_json(self):
+        words = ["replay", example("laboratory.obj"), example("sleep.script")]
+        listed = json.loads(self.text("--names", "--json", *words))
+        self.assertEqual([it["line"] for it in listed], program(*words)[1].decode().splitlines())
+        shown = [line.partition("# ")[2] for line in self.text("--names", *words).splitlines()]
+        self.assertEqual([it["meaning"] for it in listed], shown)
+        # (the comments of a reach are lines of their own)
+        words = ["reach", example("pm_cfg_obj.obj"), "RPU_0"]
+        meanings = [it["meaning"] for it in json.loads(self.text("--names", "--json", *words)) if not it["line"]]
+        self.assertEqual(meanings, [line for line in self.text("--names", *words).splitlines() if line.startswith("#")])
+        self.assertIn("--names is followed by", self.refused("--names", "--json", "build", example("two-masters.txt")))
 
     def test_bad_use(self):
         self.assertIn("--names is followed by", self.refused("--names"))

@@ -2,7 +2,7 @@
 
 import unittest
 
-import annotate
+import replay_meanings
 import diff
 import program as programs
 from common import Case, board_of, example, examples, program, view
@@ -156,7 +156,7 @@ class Messages(unittest.TestCase):
         content = b"ipi 1 21\n\tipi 0x7 21 # a\nipi 8 21\nirq 7\nipi 007 3\nipi 7\n#ipi 7 21\nipi 77 21\npost 7 1\nserve\npost 1 7"
         wanted = b"ipi 1 21\n\nipi 8 21\nirq 7\n\n\n#ipi 7 21\nipi 77 21\n\nserve\npost 1 7"
         self.assertEqual(diff.without_messages(content, 7), (wanted, [2, 5, 6, 9]))
-        self.assertEqual(annotate.message_of("irq 7"), None)
+        self.assertEqual(replay_meanings.message_of("irq 7"), None)
 
 
 if __name__ == "__main__":

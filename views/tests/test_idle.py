@@ -9,6 +9,7 @@ import unittest
 import chip as chips
 import idle
 import objects
+import to_numbers
 from common import Case, example, examples, program, view
 
 LABORATORY = example("laboratory.obj")
@@ -78,6 +79,15 @@ class Idle(Case):
             without = ["" if line in silent else line for line in script]
             runs = [program("replay", LABORATORY, self.file("s", "\n".join(lines) + "\n"))[1] for lines in (script, without)]
             self.assertEqual(runs[0], runs[1], script)
+
+    def test_what_is_said_to_be_refused_or_not_heard_is_so(self):
+        lines = [line for line, said in LINES.items() if said and "[no-effect]" not in said and not line.startswith("post")]
+        self.assertGreater(len(lines), 6)
+        numbers = to_numbers.in_numbers("\n".join(["ipi APU INIT_FINALIZE", *lines, ""]).encode(), "FILE").decode()
+        status, written, _ = program("replay", LABORATORY, self.file("s", numbers))
+        answers = [words for words in map(str.split, written.decode().splitlines()) if words[1] in ("reply", "drop", "smc")]
+        self.assertEqual((status, [int(words[0]) for words in answers]), (0, list(range(1, len(lines) + 2))))
+        self.assertNotIn("0", [words[3] for words in answers[1:] if words[1] != "drop"])
 
     def test_no_line_of_the_examples_does_nothing(self):
         for obj, script in itertools.product(examples(".obj"), examples(".script")):

@@ -3,6 +3,7 @@
 import re
 import unittest
 
+import lines as texts
 import to_names
 import to_numbers
 from common import Case, example, examples, program, view
@@ -22,8 +23,8 @@ def in_names(content):
 
 def in_plain_numbers(content):
     """A file with decimal numbers, single spaces and no comments."""
-    lines = [[word for _, word in to_numbers.words_of(line)] for line in content.decode().split("\n")]
-    plain = [[word if (value := to_numbers.value_of(word)) is None else str(value) for word in line] for line in lines]
+    lines = [texts.words_of(line) for line in content.decode().split("\n")]
+    plain = [[word if (value := texts.number_of(word)) is None else str(value) for word in line] for line in lines]
     return "\n".join(" ".join(line) for line in plain)
 
 
@@ -107,8 +108,6 @@ class Numbers(Case):
             "smc 2 2214592515 1 0x1000", "smc 2 3288334339 3 0x100001000", "smc 3 2214592516 0 0", "smc 3 2214592514",
             "smc 2 2214592521", "smc 2 0xC4000003 2 4096", "smc 2 2214592515 1 4096",
         ])  # fmt: skip
-        import to_names
-
         self.assertEqual(to_names.line_in_names("smc 2 3288334339 3 4096", {}), "smc APU_0 CPU_ON_64 APU_3 4096")
         self.assertEqual(to_names.line_in_names("smc 2 0x84000004 1 0", {}), "smc APU_0 AFFINITY_INFO APU_1 0")
         for line, why in [
