@@ -20,7 +20,8 @@ link_all() {
 }
 
 # Makes the copy of the toolchain with the other clang, if the toolchain has its parts where they are known to be. `rt`
-# itself is copied, since it finds the toolchain by the place of its file; the sanitizer's library is empty there.
+# itself is copied, since it finds the toolchain by the place of its file; the sanitizer's library is empty there, and so
+# is the prover, which `rt try` asks beside the compiler for a hint alone, at the cost of a second processor.
 copy_toolchain() {
     kit=$(rt doc 2>/dev/null) && kit=$(cd "$(dirname -- "$kit")" 2>/dev/null && pwd) || return
     for part in bin/rt bin/rtlib.py c/asan.a toolchain/bin/clang; do
@@ -28,7 +29,8 @@ copy_toolchain() {
     done
     copy=$room/kit
     link_all "$kit" "$copy" bin c toolchain && ln -s "$kit" "$copy/of-the-kit" &&
-        link_all "$kit/bin" "$copy/bin" rt rtlib.py && cp "$kit/bin/rt" "$kit/bin/rtlib.py" "$copy/bin/" &&
+        link_all "$kit/bin" "$copy/bin" rt rtlib.py rattle && cp "$kit/bin/rt" "$kit/bin/rtlib.py" "$copy/bin/" &&
+        echo '#!/bin/sh' >"$copy/bin/rattle" && chmod 755 "$copy/bin/rattle" &&
         link_all "$kit/c" "$copy/c" asan.a && echo '!<arch>' >"$copy/c/asan.a" &&
         link_all "$kit/toolchain" "$copy/toolchain" bin && link_all "$kit/toolchain/bin" "$copy/toolchain/bin" clang &&
         cp "$top/wrapper/clang" "$copy/toolchain/bin/clang"
