@@ -4,6 +4,7 @@ The file has the texts of the script first, then each unit that changes in the b
 differ. Beside it lies a file of names for each list of values that they have, which GTKWave calls a translate filter.
 """
 
+import math
 import os
 from typing import Iterator
 
@@ -17,7 +18,10 @@ from wave_signals import Signal, codes_of, name_of, scopes, values_of, width_of
 TEXTS = ("line", "answer", "refused")
 
 # Flags of a line of a saved view: values in binary or as texts, on the right, by the names of a file.
-BINARY, TEXT, RIGHT, BY_FILE = 0x8, 0x1000 | 0x200, 0x20, 0x2000
+BINARY, TEXT, RIGHT, BY_FILE = 0x8, 0x800, 0x20, 0x2000
+
+# How many marks of the time axis the whole dump has at first.
+MARKS = 3
 
 
 def path_of(chip: Chip) -> dict[Signal, str]:
@@ -50,15 +54,21 @@ def filter_text(words: tuple[str, ...]) -> str:
     return "".join(f"{value:0{width}b} {word}\n" for value, word in enumerate(words))
 
 
-def write(name: str, chip: Chip, run: Steps) -> None:
-    """Writes a saved view, and the files of names beside it."""
+def zoom_of(end: int) -> str:
+    """The line by which a dump of this length fits into a window: from a mark to the next is as much as a power of 2 says."""
+    return f"*{-math.log2(end / MARKS):.6f} 0" + " -1" * 26
+
+
+def write(name: str, chip: Chip, run: Steps, end: int) -> None:
+    """Writes a saved view of a dump with this last time, and the files of names beside it."""
     base = os.path.splitext(name)[0]
     names, filters = path_of(chip), {}
-    lines = [f"@{TEXT | RIGHT:x}", *(f"script.{text}" for text in TEXTS)]
+    lines = [zoom_of(end), f"@{TEXT | RIGHT:x}", *(f"script.{text}" for text in TEXTS)]
     for signal in shown_of(chip, run):
         words = tuple(values_of(chip, signal))
         file = filters.setdefault(words, f"{os.path.abspath(base)}.{len(filters) + 1}.values")
-        lines += [f"@{BY_FILE | BINARY | RIGHT:x}", f"^1 {file}", names[signal]]
+        lines += [f"@{BY_FILE | BINARY | RIGHT:x}", f"^1 {file}"]
+        lines.append(f"+{{device {name_of(signal.unit)}}} {names[signal]}" if signal.of_device else names[signal])
     for words, file in filters.items():
         write_file(file, filter_text(words).encode())
     write_file(name, "".join(line + "\n" for line in lines).encode())

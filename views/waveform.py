@@ -210,6 +210,6 @@ def main(words: Sequence[str]) -> int:
         run = steps.steps_of(steps.Run(obj, chip, room), content, file)
     lines = list(dump(chip, run, steps.script_lines(content), by_ticks))
     if view is not None:
-        saved_view.write(view, chip, run)
+        saved_view.write(view, chip, run, times_of(run, steps.script_lines(content), by_ticks).starts[-1])
     sys.stdout.writelines(line + "\n" for line in lines)
     return 0

@@ -150,7 +150,8 @@ class Waveform(Case):
         saved = self.file("sleep.gtkw", "")
         self.text("--vcd", "--gtkw", saved, "replay", example("laboratory.obj"), example("sleep.script"))
         lines = programs.read_file(saved).decode().splitlines()
-        self.assertEqual(lines[:4], ["@1220", "script.line", "script.answer", "script.refused"])
+        self.assertEqual(lines[0].split()[:2], ["*-12.468285", "0"])
+        self.assertEqual(lines[1:5], ["@820", "script.line", "script.answer", "script.refused"])
         self.assertIn("FPD.APU.APU_0[1:0]", lines)
         self.assertNotIn("device.FPD.APU.APU_0", lines)
         names_file = lines[lines.index("FPD.APU.APU_0[1:0]") - 1].split(" ", 1)[1]
@@ -158,7 +159,7 @@ class Waveform(Case):
         broken = self.file("broken.script", "ipi 1 21\nbreak 33\nipi 1 13 33 1 0 2\n")
         self.text("--vcd", "--gtkw", saved, "replay", example("laboratory.obj"), broken)
         lines = programs.read_file(saved).decode().splitlines()
-        self.assertEqual([line for line in lines if "UART_0" in line], ["LPD.UART_0", "device.LPD.UART_0"])
+        self.assertEqual([line for line in lines if "UART_0" in line], ["LPD.UART_0", "+{device UART_0} device.LPD.UART_0"])
 
     def test_each_unit_of_the_table_is_a_signal(self):
         dump = self.dump(example("two-masters.obj"), self.file("empty", ""))
