@@ -7,12 +7,14 @@ master that isn't the first one, the wait of a processor that has suspended, the
 
 import os
 import re
-from typing import NamedTuple
+from typing import NamedTuple, Optional
 
 import faults
+import lines
 import logs
 import names
 import to_names
+import to_numbers
 from lines import count
 from logs_named import read_named, read_table
 from program import BadUse, read_file
@@ -21,6 +23,7 @@ from told import tell
 READERS = (logs.read_probe, logs.read_kernel, logs.read_firmware, read_table, read_named)
 STAMP = re.compile(r"^\s*(?:<\d+>)?\[\s*(\d+\.\d+)\]|\s(\d+\.\d{6}):\s|^\s*(\d+(?:\.\d+)?)[\s,;|]")
 COLOURS = re.compile(r"\x1b\[[0-9;]*[A-Za-z]")
+LOCK_STEP = 6  # (the master of both real-time processors together)
 SELF_SUSPEND, FORCE_POWERDOWN, REQUEST_WAKEUP, SET_REQUIREMENT, RELEASE_NODE = 7, 8, 10, 15, 14
 
 
@@ -30,6 +33,23 @@ class Found(NamedTuple):
     entry: logs.Entry
     place: int
     time: str
+
+
+def numbered(entry: logs.Entry) -> str:
+    """The line of a script that an entry is, in numbers where it is a message."""
+    return entry.line or " ".join(map(written, ["ipi", entry.master, entry.call, *entry.words]))
+
+
+def fits(entry):
+    """Raises Unreadable where an entry makes no line of a script."""
+    if isinstance(entry, logs.Entry):
+        try:
+            line = to_numbers.line_in_numbers(numbered(entry), {})
+        except to_numbers.Unknown as fault:
+            raise logs.Unreadable(str(fault)) from None
+        fault = lines.script_fault(line.encode("utf-8"))
+        if fault:
+            raise logs.Unreadable(fault[1])
 
 
 class Log:
@@ -65,6 +85,8 @@ class Log:
         before = dict(self.open)
         try:
             entries = next((it for it in (reader(line, self.state) for reader in READERS) if it is not None), None)
+            for entry in entries or ():
+                fits(entry)
         except logs.Unreadable as why:
             self.unreadable.append((place, str(why)))
             return
@@ -79,6 +101,11 @@ class Log:
                 self.open = {task: at for task, at in self.open.items() if before.get(task) == at}
             else:
                 self.found.append(Found(entry, place, time))
+
+
+def owner_of(proc: Optional[int]) -> Optional[int]:
+    """The master that has a processor; that of a real-time one is its own, and not the one of both."""
+    return next((master for master, procs in names.MASTERS.items() if proc in procs and master != LOCK_STEP), None)
 
 
 class Script:
@@ -121,7 +148,7 @@ class Script:
         """What a message does to processors, if it is accepted."""
         if not entry.answer.startswith("SUCCESS") and entry.answer:
             return
-        owner = next((it for it, procs in names.MASTERS.items() if entry.words and entry.words[0] in procs and it != 6), None)
+        owner = owner_of(entry.words[0]) if entry.words else None
         if entry.call == SELF_SUSPEND and not self.waits_told:
             self.suspended[entry.master] = entry.words[0]
         elif entry.call == REQUEST_WAKEUP and owner:
@@ -135,13 +162,12 @@ class Script:
             self.waits_told = self.waits_told or word == "wfi"
             self.suspended.clear()
             if word in ("boot", "gic"):
-                number = names.number_of("node", proc) or int(proc)
-                self.started.setdefault(next((it for it, procs in names.MASTERS.items() if number in procs and it != 6), logs.APU), set()).add(number)
+                number = names.number_of("node", proc) or lines.number_of(proc)
+                self.started.setdefault(owner_of(number) or logs.APU, set()).add(number)
             self.add(entry.line, note)
             return
         self.before(entry)
-        line = " ".join(map(written, ["ipi", entry.master, entry.call, *entry.words]))
-        self.add(to_names.line_in_names(line, {}), f"expect answer {entry.answer}; {note}" if entry.answer else note)
+        self.add(to_names.line_in_names(numbered(entry), {}), f"expect answer {entry.answer}; {note}" if entry.answer else note)
         self.after(entry)
 
 

@@ -186,7 +186,7 @@ def read_firmware(line: str, state: dict):
 # A trace of the kernel's one function that makes all calls, by a probe; see docs/LOGS.md for the commands.
 
 PROBE = re.compile(r"^\s*(?P<task>\S.*?-\d+)\s+\[\d+\]\s+(?:\S+\s+)?\d+\.\d+:\s+\S+: \((?P<where>[^)]*)\)(?P<words>.*)$")
-TRACED = "zynqmp_pm_invoke_fn"
+TRACED, TRACED_WORDS = "zynqmp_pm_invoke_fn", 4
 
 
 def numbers_in(text: str) -> list:
@@ -211,7 +211,9 @@ def read_probe(line: str, state: dict):
     values = numbers_in(found["words"])
     if "<-" in found["where"]:
         return [] if not values else state["complete"](found["task"], values[0])
-    if len(values) < 2:
-        raise Unreadable(f"an event of {TRACED} has the call and its words, as in id=13 a0=33 a1=1")
+    arguments = getattr(names.CALLS.get(values[0] & 0xFFFF if values else 0), "arguments", None) or ()
+    if not values or len(values) - 1 < min(len(arguments), TRACED_WORDS):
+        raise Unreadable(f"an event of {TRACED} has the call and {TRACED_WORDS} words, as in id=13 a0=33 a1=1 a2=0 a3=2")
     state["open"](found["task"])
-    return [message(APU, values[0] & 0xFFFF, tuple(word & 0xFFFFFFFF for word in values[1:]))]
+    words = [word & 0xFFFFFFFF for word in values[1:]]
+    return [message(APU, values[0] & 0xFFFF, (*words, *[0] * (len(arguments) - len(words))))]

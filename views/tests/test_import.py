@@ -137,6 +137,10 @@ class Scripts(Case):
             "0.1 APU REQUEST_NODE UART_9 1 0 2 -> 0": "no node is named UART_9",
             "0.1 BPU REQUEST_NODE UART_0 1 0 2 -> 0": "no master is named BPU",
             "0.1 APU BORROW_NODE UART_0 1 0 2 -> 0": "no call is named BORROW_NODE",
+            "0.1 - wfi APU_9": "no node is named APU_9",
+            "0.1 - boot APU_0": "'boot' takes 2 words after it, and 1 is here",
+            "0.1 APU REQUEST_NODE 0x100000000 1 0 2 -> 0": "the number in word 4, 0x100000000, doesn't fit 32 bits",
+            "a-1 [000] ... 1.0: pm: (zynqmp_pm_invoke_fn+0x0/0x1a0) id=13 a0=33": "an event of zynqmp_pm_invoke_fn has the call and 4 words",
         }
         for row, why in rows.items():
             with self.subTest(row):
