@@ -201,6 +201,7 @@ class Unsure(unittest.TestCase):
         for form in [
             "~0 >> 4", "(1 << 31) >> 3", "~0 > 0", "~0 == 0xFFFFFFFF", "~0 << 4", "~0 + 1", "~0 / 2", "1 << ~0", "0x7FFFFFFF + 1",
             "65536 * 32768", "~0L >> 4", "~0UL >> 4", "(1L << 31) >> 3", "!~4294967295", "2147483647L + 1L > 0",
+            "(~0 & ~1) >> 1", "(~0 | 1) > 0", "(~0 ^ 1) >> 1",
         ]:  # fmt: skip
             with self.subTest(form):
                 found = self.refusal("\n" + array([f"1,\n{form}"]))
