@@ -28,6 +28,32 @@ MOST, FEWEST, SECONDS = 300, 6, 30
 
 LINES = 14
 
+# An object in which each master may do much, and reset processors too.
+MUCH = """header
+section masters
+master 1 1 100 6 6
+master 7 2 50 5 5
+master 8 4 4294967295 1 1
+section slaves
+slave 28 0 7
+slave 33 1 3
+slave 15 0 6
+section prealloc
+group 2
+prefer 15 0 0 3
+section power
+power 10 2
+power 6 1
+power 7 5
+section reset
+reset 2 2
+reset 7 1
+reset 8 3
+reset 33 7
+section shutdown
+shutdown 2 1
+"""
+
 # A script over laboratory.obj in which the device keeps APU_0 on, and the book has it off.
 KEPT_ON = "ipi 1 21\nboot 7 0\nbreak 2\nipi 7 8 10 2\nipi 7 3 2\n"
 
@@ -139,7 +165,8 @@ class Devices(Case):
                 self.check(board, path, content, list(permits.masters(board))[:1])
 
     def test_scripts_by_chance(self):
-        boards = {path: board_of(path) for path in map(example, ("laboratory.obj", "three-masters.obj", "clocks.obj"))}
+        much = self.file("much.obj", program("build", self.file("much.txt", MUCH))[1])
+        boards = {path: board_of(path) for path in (much, *map(example, ("laboratory.obj", "three-masters.obj", "clocks.obj")))}
         chance, begin, count, failed, differ = random.Random(63), time.monotonic(), 0, 0, 0
         while count < MOST and (count < FEWEST or time.monotonic() - begin < SECONDS):
             path = chance.choice(list(boards))
