@@ -5,6 +5,7 @@ from typing import Iterator, Optional, Sequence
 import grammar
 import lines as texts
 import names
+import reached
 from chip import Chip
 from meanings import capabilities
 from steps import Replay
@@ -59,6 +60,9 @@ def meaning_of_words(chip: Chip, message: Sequence[int], words: Sequence[int]) -
         return [chip.value_name(node, words[0]), "requires " + capabilities(words[1]), USAGE[words[2]]]
     if api == 4:
         return [f"{'power' if rest[0] == 1 else 'latency'} {words[0]}"]
+    if api == 17:
+        more = reached.more_words(chip, node) if rest[0] else ""
+        return [f"which on the chip resets {more} too"] if more else []
     if api == 18:
         return ["asserted" if words[0] else "released"]
     if api == 38:

@@ -109,6 +109,12 @@ class Chip(Case):
         self.assertNotIn("master 7", "".join(line for line in shown if not line.startswith("#")))
         self.assertIn("# master 7 reset 1 7  # RPU_0: APU may reset a processor of it", shown)
 
+    def test_what_a_reset_of_several_units_does_on_the_chip_is_said_of_its_answer(self):
+        path = self.object_of(BY_LINE.format(line=1113))
+        script = self.file("reset.script", "ipi 1 17 1113 2\nipi 1 17 1113 0\nipi 1 18 1113\n")
+        shown = [line.split("  # ")[1] for line in self.text("--names", "replay", path, script).splitlines() if " reply " in line]
+        self.assertEqual(shown, ["APU: success, which on the chip resets all of RPU too", "APU: success", "APU: success, released"])
+
     def test_the_examples_hold_no_topology_of_their_own(self):
         self.assertEqual([name for name in os.listdir(EXAMPLES) if name.endswith(".topology")], [])
 
