@@ -68,9 +68,7 @@ def in_comments(script: list[str], name: str) -> list[Clause]:
             last = number
         comment = COMMENT.search(line)
         if comment:
-            words = comment[1].split()
-            of_state = bool(words) and words[0] in OF_STATE
-            found += clauses_of(comment[1], number if of_state else last, f"{name}:{number}")
+            found += clauses_of(comment[1], last, f"{name}:{number}")
     return found
 
 

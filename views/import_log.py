@@ -68,10 +68,14 @@ class Log:
         """A task has begun a call: its message comes next, if the script can have it."""
         self.open[task] = len(self.found)
 
+    def close(self, before: dict):
+        """A call that was begun since then has no message here, so its return completes none."""
+        self.open = {task: at for task, at in self.open.items() if before.get(task) == at}
+
     def complete(self, task: str, value: int):
         """The call that a task has begun returns."""
         place = self.open.pop(task, None)
-        if place is not None and place < len(self.found):
+        if place is not None:
             found = self.found[place]
             if logs.is_answered(found.entry.call, found.entry.words):
                 answer = logs.answer_of_return(value & 0xFFFFFFFFFFFFFFFF, found.entry.call)
@@ -88,6 +92,7 @@ class Log:
             for entry in entries or ():
                 fits(entry)
         except logs.Unreadable as why:
+            self.close(before)
             self.unreadable.append((place, str(why)))
             return
         if entries is None:
@@ -98,7 +103,7 @@ class Log:
         for entry in entries:
             if isinstance(entry, logs.Left):
                 self.left[entry.why] = self.left.get(entry.why, 0) + 1
-                self.open = {task: at for task, at in self.open.items() if before.get(task) == at}
+                self.close(before)
             else:
                 self.found.append(Found(entry, place, time))
 

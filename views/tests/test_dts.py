@@ -50,6 +50,14 @@ class Trees(Case):
             "serial@ff000000": ["UART_0", "clock UART_0"], "serial@ff010000": ["UART_1"], "spi@ff040000": ["SPI_0"],
         })  # fmt: skip
 
+    def test_references_with_other_numbers_of_cells(self):
+        path = self.file("cells.dts", (
+            "/dts-v1/; / { fixed: clock { #clock-cells = <0>; }; three: three { #clock-cells = <3>; };\n"
+            '  fw: firmware { compatible = "xlnx,zynqmp-clk"; #clock-cells = <1>; };\n'
+            "  device { clocks = <&three 1 2 3>, <&fixed>, <&fw UART0_REF &fw GPU_REF>; }; };\n"
+        ))  # fmt: skip
+        self.assertEqual(asked(tree_of(path))[0], {"device": ["clock UART_0", "clock GPU"]})
+
     def test_trees_that_cant_be_read(self):
         with open(example("board.dts"), encoding="ascii") as file:
             source = file.read()
@@ -104,6 +112,12 @@ class Refusals(Case):
         self.assertIn(" SPI_0, ", rest)  # (its device is switched off)
         self.assertIn(" RESET_RPU_R50, ", rest)
         self.assertNotIn(" GPIO,", rest)
+
+    def test_a_slave_that_cant_wake(self):
+        with open(example("board.dts"), encoding="ascii") as file:
+            path = self.file("dp.dts", file.read().replace("PD_ETH_0", "PD_DP"))
+        _, output, _ = view("dts", example("pm_cfg_obj.obj"), path)
+        self.assertIn("ethernet@ff0b0000: DP, RESET_GEM0, DP to wake\n  refused: DP to wake (no feature; nobody may)\n", output.decode())
 
     def test_a_tree_of_another_master_over_an_object_without_published_lines(self):
         status, output, told = view("dts", "--master", "RPU_0", example("two-masters.obj"), example("board.dts"))

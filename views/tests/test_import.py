@@ -72,6 +72,32 @@ class Formats(Case):
         _, output, _ = view("import", log)
         self.assertNotIn(b"expect", output)
 
+    def test_a_return_doesnt_complete_the_call_of_another_task(self):
+        log = self.file("other.log", (
+            "  a-1  [000] .....  1.000001: pm: (zynqmp_pm_invoke_fn+0x0/0x1a0) id=13 a0=33\n"
+            "  b-2  [001] .....  1.000002: pm: (zynqmp_pm_invoke_fn+0x0/0x1a0) id=14 a0=34 a1=0 a2=0 a3=0\n"
+            "  a-1  [000] .....  1.000003: pm_ret: (f+0x40/0x68 <- zynqmp_pm_invoke_fn) ret=-22\n"
+        ))  # fmt: skip
+        _, output, told = view("import", log)
+        self.assertNotIn(b"expect", output)
+        self.assertIn(b"other.log:1: a call that isn't read", told)
+
+    def test_what_the_kernel_returns(self):
+        import logs
+
+        returned = {0: "SUCCESS", -13: "-EACCES", 0xFFFFFFF3: "-EACCES", -524: "-ENOTSUPP", -87: "-EUSERS", -1: "-EINVAL", 2002: "NO_ACCESS"}
+        for value, answer in returned.items():
+            self.assertEqual(logs.answer_of_return(value, 15), answer)
+        self.assertEqual(logs.answer_of_return(0, 13), "SUCCESS|DOUBLE_REQUEST")
+
+    def test_a_master_that_sends_again_has_slept_and_woken(self):
+        log = self.file("sleep.log", "RPU_0> SelfSuspend(7, 0, 0, 0)\nRPU_0> SetRequirement(11, 2, 0, 1)\nRPU_0> RequestNode(11, 1, 0, 2)\n")
+        _, output, _ = view("import", log)
+        self.assertEqual([line.partition("  ")[0] for line in output.decode().splitlines()[2:]], [
+            "ipi RPU_0 SELF_SUSPEND RPU_0 0 0 0 0", "ipi RPU_0 SET_REQUIREMENT OCM_BANK_0 CONTEXT 0 NO", "wfi RPU_0", "gic RPU_0",
+            "ipi RPU_0 REQUEST_NODE OCM_BANK_0 ACCESS 0 BLOCKING",
+        ])  # fmt: skip
+
     def test_prints_of_tf_a_and_the_kernel_on_one_console(self):
         lines, told = script_of("console.log")
         self.assertEqual(lines[1:3], ["ipi APU GET_NODE_STATUS APU_1", "ipi APU REQUEST_WAKEUP APU_1 1 0 BLOCKING"])

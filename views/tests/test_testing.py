@@ -90,6 +90,8 @@ class Judged(Case):
     def test_the_kernels_numbers(self):
         path = self.script("ipi 1 21\nipi 1 14 46 # expect answer -EACCES\nipi 1 3 99 # expect answer -EINVAL\n")
         self.assertEqual(self.text("test", LABORATORY, path), f"{path}: 2 expectations met\n")
+        path = self.script("ipi 1 21\nipi 1 14 46 # expect answer -EINVAL\nipi 1 3 99 # expect answer -EACCES\nipi 1 21 # expect answer -EINVAL\n")
+        self.assertIn(": 0 of 3 expectations met", view("test", LABORATORY, path)[1].decode())
 
     def test_a_callback_by_its_names(self):
         path = self.script("ipi 1 21\nipi 1 5 33 1 0 1\nipi 1 13 33 1 0 2 # expect call APU NOTIFY_CB UART_0 ZERO_USERS\n")
