@@ -15,11 +15,13 @@ import expectations
 import faults
 import findings
 import judged
+import objects
 import to_names
 import to_numbers
+from chip import Chip
 from forms import NOT_JUDGED, UNEXPECTED
 from lines import count
-from program import BadUse, Failed, read_file
+from program import BadUse, Failed, Unread, read_file
 from replays import Run, content_of, script_lines
 from target import Target
 from told import in_one_line, tell
@@ -74,7 +76,11 @@ def told(clause: expectations.Clause, instead: str, script: list[str]) -> str:
 
 def outcome(over: Run, path: str) -> Outcome:
     """Runs a script over an object and a chip, and judges the run."""
-    name, content = faults.name_of(path), read_file(path)
+    name = faults.name_of(path)
+    try:
+        content = read_file(path)
+    except Unread as fault:
+        return Outcome(name, [], Failed(b"", fault.status, str(fault)))
     script = script_lines(to_numbers.in_numbers(content, path))
     clauses = expected_of(content, script, path)
     try:
@@ -163,13 +169,21 @@ def status_of(outcomes: list[Outcome]) -> int:
     return failed[0] if failed else UNEXPECTED if UNEXPECTED in others else NOT_JUDGED if NOT_JUDGED in others else 0
 
 
+def chip_of(obj: str, topology: list[str]) -> Chip:
+    """The chip that scripts run over, as for each view of an object. Of an object that the program refuses it says so."""
+    try:
+        return chips.chosen(obj, objects.load(obj), topology).chip
+    except Failed:
+        return chips.read(*topology)
+
+
 def main(words: list[str]) -> int:
     """`test [--all | --tap | --json] [--junit FILE] [--topology TOPO] OBJ SCRIPT..`."""
     given, others = options_of(words)
     if len(others) < 2:
         raise BadUse("test takes an OBJ and one SCRIPT or more, as in ./pmu --help")
     obj, *scripts = others
-    chip = chips.read(given.get("--topology"))
+    chip = chip_of(obj, [given["--topology"]] if "--topology" in given else [])
     target = Target(given["--junit"]) if "--junit" in given else None
     try:
         with tempfile.TemporaryDirectory() as room:

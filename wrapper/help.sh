@@ -35,7 +35,7 @@ Views of what it reads and writes, in other ways:
        ./pmu report OBJ [SCRIPT] -o FILE.html    a page of who can reach whom, the script's wave, and each line in names
        ./pmu names [--json]             the names of nodes, reset lines, calls, clocks and words, with their numbers
        the views of an object take a TOPO as one word more too, and tell which one it was over the board's reset lines
-docs/VIEWS.md and docs/OBJECTS.md explain them. Nothing is proved of them.
+docs/OBJECTS.md and docs/VIEWS.md explain them, and name the documents of the others. Nothing is proved of them.
 
 A file - is standard input. With -o FILE (--output FILE), anywhere among the words, what is written goes to FILE, which
 stays as it was if there is a fault. Behind -- no word is an option.

@@ -167,12 +167,24 @@ class Judged(Case):
         self.assertEqual(found["expectations"][1], {"line": 1, "place": f"{path}:1", "expected": "answer SUCCESS", "difference": None})
         self.assertIn("and it is SUCCESS", found["expectations"][0]["difference"])
 
+    def test_the_topology_of_the_published_lines(self):
+        path = self.script("ipi 1 17 1034 1 # expect answer SUCCESS, line RESET_UART0 asserted\n")
+        status, output, errors = view("test", example("pm_cfg_obj.obj"), path)
+        self.assertEqual((status, output.decode()), (0, f"{path}: 2 expectations met\n"))
+        self.assertIn("it is judged over topologies/zynqmp-resets.topology", errors.decode())
+
     def test_another_topology(self):
         path = self.script("ipi 1 17 1034 1 # expect answer INVALID_NODE\n")
-        self.assertEqual(view("test", example("pm_cfg_obj.obj"), path)[0], 0)
-        topology = os.path.join(TOP, "topologies", "zynqmp-resets.topology")
-        status, output, _ = view("test", "--topology", topology, example("pm_cfg_obj.obj"), path)
-        self.assertEqual(status, 104, output)
+        topologies = os.path.join(TOP, "topologies")
+        for name, status in (("zynqmp.topology", 0), ("zynqmp-resets.topology", 104)):
+            words = ("test", "--topology", os.path.join(topologies, name), example("pm_cfg_obj.obj"), path)
+            self.assertEqual(view(*words)[0], status, name)
+
+    def test_a_missing_script_among_others(self):
+        path = self.script("ipi 1 21 # expect answer SUCCESS\n")
+        missing = os.path.join(os.path.dirname(path), "missing")
+        status, output, _ = view("test", LABORATORY, missing, path)
+        self.assertEqual((status, output.decode().splitlines()), (4, [f"no file {missing}", f"{path}: 1 expectation met"]))
 
     def test_its_words(self):
         self.assertIn("test takes an OBJ", self.refused("test", LABORATORY))
