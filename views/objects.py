@@ -36,6 +36,11 @@ class Record:
     offset: int  # of its first word, in bytes
     words: tuple[int, ...]
 
+    @property
+    def place(self) -> int:
+        """Its first word in the object, counted from 0."""
+        return self.offset // WORD
+
     def __getattr__(self, name: str) -> int:
         if name in FIELDS[self.kind]:
             return self.words[FIELDS[self.kind].index(name)]

@@ -195,7 +195,7 @@ class Steps:
         """A line for each record of each step."""
         for (a, end), reasons in self.reasons.items():
             for reason in reasons:
-                at = f"{reason.record} (byte {reason.record.offset})"
+                at = f"{reason.record} (word {reason.record.place})"
                 yield f"  {names.node_name(a)} > {end}: {reason.why}: {at}: {reason.detail}"
 
 
@@ -220,7 +220,7 @@ class Unjudged(NamedTuple):
     masters: list[int]
 
     def __str__(self) -> str:
-        at = f"{self.record} (byte {self.record.offset})"
+        at = f"{self.record} (word {self.record.place})"
         return f"not judged: {at}: {permits.listed(self.masters)} may {self.act} {self.name}"
 
 

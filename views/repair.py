@@ -188,5 +188,5 @@ def lines(board: Board, questions: Sequence[Question]) -> list[str]:
         for record in section.records:
             if record.offset in records:
                 after = records[record.offset]
-                found += [f"- {record}  # byte {record.offset}", f"+ {after}  # {lost(board, record, after)}"]
+                found += [f"- {record}  # word {record.place}", f"+ {after}  # {lost(board, record, after)}"]
     return found

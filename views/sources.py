@@ -25,7 +25,7 @@ class Source(NamedTuple):
     def place(self, record: objects.Record) -> Place:
         """Where a record is."""
         if self.lines is None:
-            return Place(self.file, word=record.offset // objects.WORD)
+            return Place(self.file, word=record.place)
         return Place(self.file, line=self.lines[record.offset])
 
 

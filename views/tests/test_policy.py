@@ -24,7 +24,7 @@ reset 34 2
 reset 62 6
 """
 
-UNJUDGED = ["not judged: reset 62 6 (byte 156): RPU_0, RPU_1 may reset line_62"]
+UNJUDGED = ["not judged: reset 62 6 (word 39): RPU_0, RPU_1 may reset line_62"]
 COUNT = "records not judged: 1; allowed: 0"
 
 
@@ -49,14 +49,14 @@ class Policy(Case):
         self.assertEqual(status, NOT_JUDGED)
 
     def test_a_rule_of_each_kind_that_is_broken(self):
-        word = "suspend: master 1 1 100 2 0 (byte 20): its suspend word has the bit of RPU_0"
-        use = "use: slave 34 0 2 (byte 100): its mask has the bit of RPU_0"
-        reset = "reset: reset 34 2 (byte 148): line 34 resets UART_1"
-        above = "above: master 1 1 100 2 0 (byte 20): FPD is above its processor APU_0"
+        word = "suspend: master 1 1 100 2 0 (word 5): its suspend word has the bit of RPU_0"
+        use = "use: slave 34 0 2 (word 25): its mask has the bit of RPU_0"
+        reset = "reset: reset 34 2 (word 37): line 34 resets UART_1"
+        above = "above: master 1 1 100 2 0 (word 5): FPD is above its processor APU_0"
         for rule, step, reasons in [
             ("never APU master RPU_0", "APU > RPU_0", [word]),
             ("never RPU_0 slave UART_1", "RPU_0 > slave UART_1", [use, reset]),
-            ("never RPU_0 line UART_1", "RPU_0 > line UART_1", ["reset: reset 34 2 (byte 148): its mask has the bit of RPU_0"]),
+            ("never RPU_0 line UART_1", "RPU_0 > line UART_1", ["reset: reset 34 2 (word 37): its mask has the bit of RPU_0"]),
             ("never APU power FPD", "APU > power FPD", [above]),
         ]:
             with self.subTest(rule):
@@ -83,11 +83,11 @@ class Policy(Case):
                 "FILE:3: never RPU_1 slave TCM_0_A: broken by RPU_1",
                 *paths,
                 "the records that give each step:",
-                "  RPU_1 > slave TCM_0_A: force: power 6 4 (byte 132): RPU is above TCM_0_A",
-                "  RPU_1 > RPU_0: force: power 6 4 (byte 132): RPU is above processor RPU_0 and above TCM_0_A, which RPU_0 may use",
-                "  RPU_0 > slave TCM_0_A: use: slave 15 0 2 (byte 112): its mask has the bit of RPU_0",
-                "  RPU_1 > APU: suspend: master 8 4 100 1 0 (byte 60): its suspend word has the bit of APU",
-                "  APU > RPU_0: suspend: master 1 1 100 2 0 (byte 20): its suspend word has the bit of RPU_0",
+                "  RPU_1 > slave TCM_0_A: force: power 6 4 (word 33): RPU is above TCM_0_A",
+                "  RPU_1 > RPU_0: force: power 6 4 (word 33): RPU is above processor RPU_0 and above TCM_0_A, which RPU_0 may use",
+                "  RPU_0 > slave TCM_0_A: use: slave 15 0 2 (word 28): its mask has the bit of RPU_0",
+                "  RPU_1 > APU: suspend: master 8 4 100 1 0 (word 15): its suspend word has the bit of APU",
+                "  APU > RPU_0: suspend: master 1 1 100 2 0 (word 5): its suspend word has the bit of RPU_0",
                 *UNJUDGED,
                 "1 of 3 rules hold",
                 COUNT,
@@ -137,10 +137,10 @@ class Policy(Case):
         path = self.file("line.obj", program("build", self.file("line.txt", text))[1])
         rule = "never RPU_0 slave UART_0\n"
         left = [
-            "not judged: slave 70 1 3 (byte 68): APU, RPU_0 may use GEM_TSU",
-            "not judged: power 33 1 (byte 88): APU may force UART_0",
-            "not judged: reset 1004 2 (byte 104): RPU_0 may reset RESET_SWDT_CRF",
-            "not judged: reset 1081 1 (byte 112): APU may reset RESET_GPO3_PL_0",
+            "not judged: slave 70 1 3 (word 17): APU, RPU_0 may use GEM_TSU",
+            "not judged: power 33 1 (word 22): APU may force UART_0",
+            "not judged: reset 1004 2 (word 26): RPU_0 may reset RESET_SWDT_CRF",
+            "not judged: reset 1081 1 (word 28): APU may reset RESET_GPO3_PL_0",
         ]
         self.assertEqual(self.judge(rule, path), (NOT_JUDGED, [*left, "1 of 1 rules hold", "records not judged: 4; allowed: 0"]))
         some = rule + "allow APU GEM_TSU\nallow RPU_0 RESET_SWDT_*\nallow RPU_0 1081\n"

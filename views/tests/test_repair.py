@@ -95,7 +95,7 @@ class Repair(Case):
         lines = output.decode().splitlines()
         self.assertEqual((status, lines[0]), (BROKEN, "the fewest records to change so that all rules hold: 10"))
         changes = dict(zip(lines[1::2], lines[2::2]))
-        self.assertEqual(changes["- reset 1054 257  # byte 1584"], "+ reset 1054 256  # mask without APU")
+        self.assertEqual(changes["- reset 1054 257  # word 396"], "+ reset 1054 256  # mask without APU")
         texts = {before[2:].split("  #")[0]: after[2:].split("  #")[0] for before, after in changes.items()}
         text = program("print", path)[1].decode().splitlines()
         self.assertEqual(set(texts) - set(text), set())

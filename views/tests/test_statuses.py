@@ -182,8 +182,8 @@ class Output(Case):
             with unittest.mock.patch.object(files, "write_out") as written:
                 self.assertEqual(files.run(lambda words, status=status: print("new") or status, [], path), status)
             with open(path, encoding="ascii") as file:
-                self.assertEqual(file.read(), "new\n" if status in forms.DONE else "old")
-            self.assertEqual(written.call_count, 0 if status in forms.DONE else 1)
+                self.assertEqual(file.read(), "new\n" if status != forms.NOT_RUN else "old")
+            self.assertEqual(written.call_count, 0 if status != forms.NOT_RUN else 1)
 
 
 if __name__ == "__main__":
