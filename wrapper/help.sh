@@ -25,7 +25,7 @@ Views of what it reads and writes, in other ways:
        ./pmu --svg replay OBJ SCRIPT    the waveform as a picture
        ./pmu --dot reach OBJ NODE       a graph, for Graphviz
        ./pmu from-c FILE.c              the object of the C file of the vendor's tools; with -o OBJ, as a file
-       ./pmu lint OBJ [SCRIPT]          what the program passes over in an object, its text or its C file, and in a script
+       ./pmu lint OBJ [SCRIPT]          what is passed over in them; --strict: exit 102 by a warning; --ignore CHECK, --json, --sarif
        ./pmu policy [--repair] OBJ FILE    judges what each master can reach by the rules of a file; exit 101 if one is broken
        ./pmu diff OBJ SCRIPT NODE       a script with and without the messages of a master
        ./pmu compare OBJ OBJ            what two objects permit otherwise; exit 102 if anything
