@@ -88,7 +88,7 @@ def without_a_master(run: Run, script: list[str], step: int, before: Modes, was_
     if not was_heard or not words:
         return before
     if words[0] == "wfi":
-        proc = texts.number_of(words[1])
+        proc = texts.number_of(words[1]) or 0
         return before | ({proc: ASLEEP} if before.get(proc) == SUSPENDING else {})
     table = closing_of(run.lines_of(content_of(script[:step])))
     return {proc: table.get(Unit("node", proc), (0, 0))[0] for proc in before}
