@@ -12,6 +12,7 @@ from typing import Iterable, Iterator, Optional
 import annotate
 import chip as chips
 import faults
+import idle
 import meanings
 import names
 import objects
@@ -137,21 +138,24 @@ def answer_of(told: list[tuple[str, str]]) -> tuple[str, str]:
     return meant, "bad" if refused else "good" if kind == "reply" else "faint"
 
 
-def script_line(number: int, line: str, comment: str, told: list[tuple[str, str]]) -> str:
-    """A line of a script, which unfolds to all that it writes."""
+def script_line(number: int, line: str, comment: str, told: list[tuple[str, str]], idle_for: str) -> str:
+    """A line of a script, which unfolds to all that it writes; `idle_for` is why it does nothing, if it does."""
     head = page.text(str(number), "number") + page.tag("code", escape(line)) + page.text(*answer_of(told))
     head += " " + page.text(comment, "faint") if comment else ""
+    head += " " + page.text(idle_for, "bad") if idle_for else ""
     failed = any(said.split()[1] in ("fail", "linefail") for said, _ in told)
     head += " " + page.text("the device refused a command", "bad") if failed else ""
     return page.folded(head, list_of(told)) if told else page.tag("div", head, class_="plain")
 
 
-def of_lines(script: list[str], numbers: list[str], told: dict[str, list[tuple[str, str]]]) -> str:
+def of_lines(board: chips.Board, script: list[str], numbers: list[str], told: dict[str, list[tuple[str, str]]]) -> str:
     """The section of the lines of a script, in names."""
+    silent = {it.line: it.message for it in idle.idle(board, numbers, script) if it.check == idle.SILENT}
     parts = [page.folded(page.text("0", "number") + "the load", list_of(told.get("0", [])))]
     for number, (line, numbered) in enumerate(zip(script[:MOST_SHOWN], numbers), 1):
         comment = re.search(r"(?:^|[ \t])#[ \t]*(.*)$", line)
-        parts.append(script_line(number, to_names.line_in_names(numbered, {}), comment[1] if comment else "", told.get(str(number), [])))
+        named, written = to_names.line_in_names(numbered, {}), told.get(str(number), [])
+        parts.append(script_line(number, named, comment[1] if comment else "", written, silent.get(number, "")))
     parts.append(page.folded("What is on at the end, in the book and at the device", list_of(told.get("end", []))))
     left = f"<p>The first {MOST_SHOWN} of {count(len(script), 'line')} are shown.</p>" if len(script) > MOST_SHOWN else ""
     buttons = '<p><button type="button" value="1">Unfold all</button><button type="button" value="0">Fold all</button></p>'
@@ -177,16 +181,16 @@ def of_expectations(over: steps.Run, script: str) -> str:
     return said + "".join(page.tag("p", page.tag("code", escape(it))) for it in found.differences)
 
 
-def of_script(path: str, chip: chips.Chip, script: str) -> Iterator[tuple[str, str, str]]:
+def of_script(path: str, board: chips.Board, script: str) -> Iterator[tuple[str, str, str]]:
     """The sections of a script: its wave, and its lines."""
-    content = read_file(script)
+    content, chip = read_file(script), board.chip
     numbered = to_numbers.in_numbers(content, script)
     numbers = script_lines(numbered)
     with tempfile.TemporaryDirectory() as room:
         over = steps.Run(path, chip, room)
         run = steps.steps_of(over, numbered, script)
         yield "wave", "The run", of_expectations(over, script) + of_wave(run, chip, numbers)
-    yield "lines", "Line by line", of_lines(script_lines(content), numbers, told_by_line(run, chip))
+    yield "lines", "Line by line", of_lines(board, script_lines(content), numbers, told_by_line(run, chip))
 
 
 def of_object(path: str, chip: chips.Chip) -> str:
@@ -202,7 +206,7 @@ def sections_of(path: str, board: chips.Board, script: Optional[str], file: Opti
     if file is not None:
         yield "policy", "The policy", of_policy(path, board, file)
     if script is not None:
-        yield from of_script(path, board.chip, script)
+        yield from of_script(path, board, script)
     yield "object", "The object in names", of_object(path, board.chip)
 
 

@@ -45,7 +45,7 @@ class Page(Case):
     def test_an_object_and_a_script(self):
         script = self.file("port.script", (
             "ipi APU INIT_FINALIZE  # expect answer SUCCESS\nbreak UART_0\n"
-            "ipi APU REQUEST_NODE UART_0 ACCESS 0 BLOCKING # expect answer SUCCESS; a <b>port</b> & more\nboot RPU_0 0\n"
+            "ipi APU REQUEST_NODE UART_0 ACCESS 0 BLOCKING # expect answer SUCCESS; a <b>port</b> & more\nboot RPU_0 0\nboot RPU 0\n"
         ))  # fmt: skip
         rules = self.file("rules.policy", "never RPU_0 master APU\n")
         content, found, text = self.page("--policy", rules, example("laboratory.obj"), script)
@@ -53,7 +53,8 @@ class Page(Case):
             "Who can reach whom", "may force a processor of it down", "OCM_BANK_0", "Reset lines: 1 can be reached",
             "A rule is broken.", "never RPU_0 master APU", "port.script: 1 of 2 expectations met", "expected answer SUCCESS, and it is INTERNAL",
             "ipi APU REQUEST_NODE UART_0 ACCESS 0 BLOCKING", "APU: internal", "a <b>port</b> & more", "the device refused a command",
-            "3 fail 33 0 1", "UART_0 on: refused by the device", "RPU_0 starts at 0x0", "master 1 1 ", "APU: may suspend",
+            "3 fail 33 0 1", "UART_0 on: refused by the device", "RPU_0 starts at 0x0",
+            "boot RPU 0", "it does nothing: RPU is a power node, and no processor", "master 1 1 ", "APU: may suspend",
         ]:  # fmt: skip
             self.assertIn(part, text)
         self.assertIn("<svg", content)
