@@ -208,9 +208,8 @@ def left_over(found: Asked, master: int, answers: dict[int, Answers], chip: chip
 def unasked(left: dict[str, list[str]]) -> list[str]:
     """What no device asks for, in lines."""
     titles = {"slave": "slaves", "line": "reset lines", "clock": "clocks"}
-    return [
-        textwrap.fill(f"{titles[kind]}: {', '.join(found)}", 118, initial_indent="  ", subsequent_indent="    ") for kind, found in left.items() if found
-    ]
+    said = [f"{titles[kind]}: {', '.join(found)}" for kind, found in left.items() if found]
+    return [textwrap.fill(line, 118, initial_indent="  ", subsequent_indent="    ") for line in said]
 
 
 def thing_in_json(thing: Thing, answers: dict[int, Answers]) -> dict[str, Any]:
@@ -223,7 +222,8 @@ def thing_in_json(thing: Thing, answers: dict[int, Answers]) -> dict[str, Any]:
 def in_json(found: Asked, master: int, answers: dict[int, Answers], chip: chips.Chip) -> dict[str, Any]:
     """All of a report for a program."""
     devices = [{"name": it.name, "asks": [thing_in_json(thing, answers) for thing in it.things]} for it in found.devices]
-    return {"master": names.node_name(master), "devices": devices, "unknown clocks": sorted(set(found.unknown)), "unasked": left_over(found, master, answers, chip)}
+    left = left_over(found, master, answers, chip)
+    return {"master": names.node_name(master), "devices": devices, "unknown clocks": sorted(set(found.unknown)), "unasked": left}
 
 
 def report(found: Asked, master: int, answers: dict[int, Answers], chip: chips.Chip) -> tuple[list[str], int]:
@@ -231,7 +231,8 @@ def report(found: Asked, master: int, answers: dict[int, Answers], chip: chips.C
     said, refused = shown(found, master, answers)
     name = names.node_name(master)
     much = count(sum(len(device.things) for device in found.devices), "thing")
-    said.append(f"{count(len(found.devices), 'device')} {'asks' if len(found.devices) == 1 else 'ask'} for {much}; refused to {name}: {refused}")
+    who = count(len(found.devices), "device") + (" asks" if len(found.devices) == 1 else " ask")
+    said.append(f"{who} for {much}; refused to {name}: {refused}")
     if found.unknown:
         said.append(f"not judged: {count(len(found.unknown), 'clock')} that this core hasn't ({len(set(found.unknown))} different)")
     left = unasked(left_over(found, master, answers, chip))
