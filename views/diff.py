@@ -9,7 +9,7 @@ other master may use, and what it is told, but for the answers to its messages.
 
 import re
 import tempfile
-from typing import NamedTuple
+from typing import Iterator, NamedTuple, Sequence
 
 import annotate
 import chip as chips
@@ -23,6 +23,7 @@ import replay_meanings
 import split
 import steps
 import to_names
+from chip import Board, Chip
 
 USAGE = "usage: ./pmu diff OBJ SCRIPT NODE [TOPO]"
 
@@ -44,18 +45,23 @@ class Row(NamedTuple):
     remark: str
 
 
-def is_call(line):
+# A line of the script with its rows, and the units that move in a line.
+Rows = tuple[int, list[Row]]
+Moved = dict[steps.Unit, moves.Moves]
+
+
+def is_call(line: str) -> bool:
     """Whether a line is a power call."""
     return split.first_word(line) == "smc"
 
 
-def is_from(line, node):
+def is_from(line: str, node: int) -> bool:
     """Whether a line is a message of a master, or a power call that is sent as messages of it."""
     message = replay_meanings.message_of(line)
     return message[0] == node if message else node == split.CALLER and is_call(line)
 
 
-def without_messages(content, node):
+def without_messages(content: bytes, node: int) -> tuple[bytes, list[int]]:
     """A script in numbers with an empty line in place of each message and power call of a master, and the numbers of
     those lines."""
     lines, silenced = content.decode("latin-1").split("\n"), []
@@ -77,21 +83,25 @@ class Word(NamedTuple):
     status: int  # of an answer, or -1
 
 
-def status_of(kind, words):
+# What is said in a line, by what it is about.
+Words = dict[tuple[str, int], list[Word]]
+
+
+def status_of(kind: str, words: Sequence[int]) -> int:
     """The status of a reply or of an acknowledgement, or -1."""
     if kind == "reply":
         return words[1]
     return words[3] if kind == "call" and words[1] == ACKNOWLEDGE else -1
 
 
-def word_of(kind, words, meaning):
+def word_of(kind: str, words: Sequence[int], meaning: str) -> Word:
     """A start, an answer or a callback by the words of its line and what they mean."""
     status = status_of(kind, words)
     said = {"run": f"starts at {words[-1]:#x}", "drop": "not heard"}.get(kind) or meaning.split(": ", 1)[1]
     return Word(" ".join([kind, *map(str, words)]), f"{status} {said}" if kind == "reply" else said, status)
 
 
-def words_of(chip, run, node, count):
+def words_of(chip: Chip, run: steps.Steps, node: int, count: int) -> list[Words]:
     """Of each line: the starts, answers and callbacks by what they are about. What the master is told by a message of its
     own, which the other run lacks, is left out."""
     told, found = run.replay, [{} for _ in range(count + 1)]
@@ -110,13 +120,13 @@ def words_of(chip, run, node, count):
 # Two runs side by side.
 
 
-def joined(words, others):
+def joined(words: Sequence[Word], others: Sequence[Word]) -> str:
     """What is shown of starts, answers or callbacks: the program's own words if those of the others look the same."""
     shown, beside = [word.shown for word in words], [word.shown for word in others]
     return "; ".join([word.raw for word in words] if shown == beside else shown)
 
 
-def remark_of(words, others):
+def remark_of(words: Sequence[Word], others: Sequence[Word]) -> str:
     """What became of a message that succeeds without the messages of the master, where it doesn't with them."""
     statuses = [word.status for word in words]
     given = [word.status for word in others]
@@ -128,7 +138,7 @@ def remark_of(words, others):
     return refused if any(status > 0 for status in statuses) else unheard if words else ""
 
 
-def rows_of_units(chip, ours, theirs):
+def rows_of_units(chip: Chip, ours: Moved, theirs: Moved) -> Iterator[Row]:
     """What differs in the values of units: in the book; and at the device, if it didn't follow the book."""
     for unit in {**ours, **theirs}:
         pair = [run.get(unit) for run in (ours, theirs)]
@@ -141,7 +151,7 @@ def rows_of_units(chip, ours, theirs):
                 yield Row(("device", unit), *texts, "")
 
 
-def rows_of_words(words, others):
+def rows_of_words(words: Words, others: Words) -> Iterator[Row]:
     """What differs in starts, answers and callbacks."""
     for about in {**words, **others}:
         ours, theirs = words.get(about, []), others.get(about, [])
@@ -149,7 +159,7 @@ def rows_of_words(words, others):
             yield Row(about, joined(ours, theirs), joined(theirs, ours), remark_of(ours, theirs))
 
 
-def rows_of_steps(chip, runs, node, count):
+def rows_of_steps(chip: Chip, runs: Sequence[steps.Steps], node: int, count: int) -> Iterator[list[Row]]:
     """Of each line, what differs."""
     moved = [moves.of_lines(run, count) for run in runs]
     words = [words_of(chip, run, node, count) for run in runs]
@@ -160,7 +170,7 @@ def rows_of_steps(chip, runs, node, count):
 # What belongs to the master.
 
 
-def users(board, number):
+def users(board: Board, number: int) -> set[int]:
     """The masters that have a processor, may use a slave, or do so below a power node."""
     chip = board.chip
     if chip.is_kind(number, "power"):
@@ -170,7 +180,7 @@ def users(board, number):
     return {node for node, record in permits.masters(board).items() if number in permits.slaves_of(board, record.mask)}
 
 
-def is_own(board, node, subject):
+def is_own(board: Board, node: int, subject: tuple) -> bool:
     """Whether a unit is of the master alone, or an answer or callback is to it."""
     kind, number = subject
     if kind in ("answer", "call"):
@@ -187,7 +197,7 @@ def is_own(board, node, subject):
 # The text.
 
 
-def title(chip, subject):
+def title(chip: Chip, subject: tuple) -> str:
     """What a row is about, with the words that a comparison has for units."""
     kind, number = subject
     if kind == "device":
@@ -201,14 +211,14 @@ def title(chip, subject):
     return f"{TITLES.get(kind, kind)} {names.node_name(number)}"
 
 
-def step_title(step, script):
+def step_title(step: int, script: Sequence[str]) -> str:
     """A step by its number and its line, with names."""
     if step == 0:
         return "step 0: the load"
     return f"step {step}: {to_names.line_in_names(script[step - 1], {}) or 'no event'}"
 
 
-def table(chip, steps_with_rows, script):
+def table(chip: Chip, steps_with_rows: Sequence[Rows], script: Sequence[str]) -> Iterator[str]:
     """The rows of each step, in columns."""
     rows = [row for _, of_step in steps_with_rows for row in of_step]
     first = max((len(title(chip, row.subject)) for row in rows), default=0)
@@ -221,12 +231,12 @@ def table(chip, steps_with_rows, script):
             yield f"{cells}  {row.remark}".rstrip()
 
 
-def part(chip, name, steps_with_rows, script):
+def part(chip: Chip, name: str, steps_with_rows: Sequence[Rows], script: Sequence[str]) -> list[str]:
     """One of the two parts of the text."""
     return [name + (":" if steps_with_rows else ": nothing differs"), *table(chip, steps_with_rows, script)]
 
 
-def text(board, node, rows, script, silenced):
+def text(board: Board, node: int, rows: Sequence[list[Row]], script: Sequence[str], silenced: Sequence[int]) -> Iterator[str]:
     """The text: of others, and then of the master itself."""
     others, own = [], []
     for step, of_step in enumerate(rows):
@@ -245,7 +255,8 @@ def text(board, node, rows, script, silenced):
     yield f"successes that others lose: {', '.join(counts)}"
 
 
-def main(words):
+def main(words: Sequence[str]) -> int:
+    """Compares a script with itself without the messages of a master."""
     if len(words) not in (3, 4):
         raise program.BadUse(USAGE)
     path, file, word, *topology = words
