@@ -15,7 +15,7 @@ def object_causes(word: int, offset: int, size: int) -> dict[int, str]:
         3: f"it ends after {count(offset, 'word')}, in the middle of a section or of the header",
         4: f"word 0: the header says {word}, and has at least 2 words after this one",
         5: f"word {offset}: the type of the object is {word}, and only 1 is read",
-        6: f"word {offset}: no such section: {word:#x}",
+        6: f"word {offset}: no such section: {word:#x}" + " (or a count before it is wrong)" * (offset > 3),
         7: f"word {offset}: the section {SECTIONS[word].name if word in SECTIONS else word} came before",
         8: f"word {offset}: the first section has to be that of the masters, with one master or more",
         9: f"word {offset}: node {word} is no master here (1, 6, 7 and 8 are, and 6 not beside 7 or 8)",

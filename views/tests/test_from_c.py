@@ -52,6 +52,11 @@ class Example(Case):
         self.assertEqual([record.line for record in found.records("reset")], list(range(1000, 1120)))
         self.assertEqual([len(found.records(kind)) for kind in ("master", "group", "power", "config", "gpo")], [3, 3, 4, 1, 1])
 
+    def test_a_count_that_is_too_low(self):
+        content = programs.read_file(example("pm_cfg_obj.c")).replace(b"120U,", b"119U,")
+        said = self.refused("from-c", self.file("low.c", content))
+        self.assertRegex(said, r"low\.c:\d+: word \d+: no such section: 0x45f \(or a count before it is wrong\) \(fault object 6 \d+\)$")
+
     @unittest.skipUnless(shutil.which("cc"), "no C compiler is here")
     def test_a_compiler_makes_the_same_bytes(self):
         kinds = ("NODE_", "XILPM_RESET_", "PM_CAP_")
