@@ -146,7 +146,7 @@ impl<W: Write + Drop> HostSink<W> {
         Some(piece.len())
     }
 
-    /// The same of a piece that has no room beside those before it: these are handed on first.
+    /// Takes first bytes of a piece that has no room beside those before it, which are handed on first.
     #[inline(never)]
     fn take_anew(&mut self, piece: &[u8]) -> Option<usize>
         ensures faults { self.new.faults ≡ self.old.faults }
