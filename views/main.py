@@ -1,10 +1,11 @@
 """The views of the program's output: the first word says which one.
 
 The wrapper `pmu` calls this with PMU_PROGRAM, the absolute path of the program, and PMU_TOP, the top of the
-repository, in the environment. Where the program itself fails its output and its exit are handed on, and a line on
-standard error says why; so it is where a file can't be read or written. All else that a view can't do, a fault of its
-own too, is one line on standard error and the exit 125. A file `-` is standard input, and `-o FILE` names a file for
-the output.
+repository, in the environment. Where the program itself fails its exit is handed on, and a line on standard error says
+why; so it is where a file can't be read or written. What the program wrote before it failed is handed on by `--names`
+alone, which has the program's own lines: another view, and JSON, is whole or isn't written. All else that a view can't
+do, a fault of its own too, is one line on standard error and the exit 125. A file `-` is standard input, and `-o FILE`
+names a file for the output.
 """
 
 import oldest
@@ -67,17 +68,17 @@ def main(words: list[str]) -> int:
     except (program.BadUse, Refused) as why:
         return refused(str(why), why.status)
     except program.Failed as failed:
-        return handed_on(failed)
+        return handed_on(failed, failed.output if words[0] == "--names" and "--json" not in words else b"")
     except KeyboardInterrupt:
         return INTERRUPTED
     except Exception as fault:  # pylint: disable=broad-exception-caught
         return refused(f"a fault of this view: {type(fault).__name__}: {fault}", NOT_RUN)
 
 
-def handed_on(failed: program.Failed) -> int:
-    """Hands on what the program wrote before it failed, and its exit."""
+def handed_on(failed: program.Failed, output: bytes) -> int:
+    """Hands on what the program wrote before it failed, as far as it is to be handed on, and its exit."""
     try:
-        files.write_out(failed.output)
+        files.write_out(output)
     except Refused as why:
         return refused(str(why), why.status)
     if failed.sentence:

@@ -146,8 +146,27 @@ class Statuses(Case):
 
     def test_what_the_program_ends_with_is_handed_on(self):
         bad = self.file("bad.obj", b"\0" * 5)
-        for words in (["--names", "print", bad], ["--dot", "reach", bad, "1"], ["policy", bad, example("apart.policy")]):
-            self.assertEqual(view(*words)[:2], program("print", bad)[:2])
+        self.assertEqual(view("--names", "print", bad)[:2], program("print", bad)[:2])
+        for words in (["--dot", "reach", bad, "1"], ["policy", bad, example("apart.policy")], ["--names", "--json", "print", bad]):
+            self.assertEqual(self.ended(*words)[0], 2)
+
+    def test_what_is_written_before_a_bad_line_is_handed_on_as_lines_alone(self):
+        bad = self.file("bad.script", "ipi 1 21\nipi 1 13 39 1 0 2\nbot 7 0\n")
+        said = f"{bad}:3: no line of a script begins with 'bot' (did you mean 'boot'?)"
+        status, output, _ = program("replay", LABORATORY, bad)
+        self.assertEqual(view("--names", "replay", LABORATORY, bad)[:2], (status, output))
+        self.assertIn(b"\n2 reply 1 0 0 0 0\n", output)
+        page = os.path.join(self._room.name, "page.html")
+        for words in (
+            ["report", LABORATORY, bad],
+            ["report", LABORATORY, bad, "-o", page],
+            ["--vcd", "replay", LABORATORY, bad],
+            ["--svg", "replay", LABORATORY, bad],
+            ["diff", LABORATORY, bad, "APU"],
+            ["--names", "--json", "replay", LABORATORY, bad],
+        ):
+            self.assertEqual(self.ended(*words), (3, said), words)
+        self.assertFalse(os.path.exists(page))
 
 
 class Python(Case):
