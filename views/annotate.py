@@ -16,6 +16,7 @@ import idle
 import lines as texts
 import names
 import objects
+import outages
 import permits
 import steps
 import to_numbers
@@ -44,10 +45,11 @@ def node_in_numbers(word: str) -> str:
 
 
 def translated(name: str, room: str) -> tuple[bytes, str]:
-    """A file in numbers: its content, and a file in the folder `room` that has it."""
+    """A file in numbers: its content, and a file in the folder `room` that has it, with no outage that ends by itself: these
+    don't count where there is no device."""
     content = to_numbers.in_numbers(read_file(name), name)
     path = os.path.join(room, os.path.basename(name) or "file")
-    write_file(path, content)
+    write_file(path, outages.plain(content))
     return content, path
 
 

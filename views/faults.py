@@ -10,6 +10,7 @@ import stat
 import subprocess
 from typing import TYPE_CHECKING, Optional, Sequence
 
+import outages
 from forms import (
     BAD_LINE, BAD_OBJECT, BAD_TEXT, FORMS, LIMITS, MOST_LINES, NO_MEMORY, TOO_LARGE, UNREADABLE, UNWRITABLE, USAGE, files_of, form_of,
     forms_of,
@@ -100,7 +101,7 @@ def kind_of(data: bytes) -> Optional[str]:
         return "is the text of an object"
     if word in TOPOLOGY:
         return "is the text of a topology"
-    if word in SCRIPT:
+    if word in SCRIPT or word == "fail":
         return "is a script"
     if all(byte in b"\t\n\r" or 0x20 <= byte <= 0x7E for byte in data[:256]):
         return "is a text"
@@ -173,6 +174,9 @@ def bad_line(run: Run) -> str:
     kind = kind_of(data)
     if cause in (4, 5) and kind in ("is an object", "is an ELF file") or cause == 1 and kind in ("is a C file", "is the text of an object"):
         return misplaced(name, data, "a script") or sentence
+    words = words_of(data.split(b"\n")[number - 1])
+    if cause in outages.CAUSES.values() and outages.is_outage(words):
+        sentence = outages.wrong_words(words) or f"'{' '.join(words)}' is a line for the views: ./pmu --names replay takes it"
     if number == 1 and data.startswith(b"\xef\xbb\xbf"):
         sentence = "the file begins with a byte order mark, and only ASCII is read"
     return f"{name}:{number}: {sentence}"

@@ -100,6 +100,7 @@ JUDGES = {
     "irq": of_interrupt,
     "break": of_device,
     "mend": of_device,
+    "fail": of_device,
 }
 
 

@@ -2,7 +2,7 @@
 
 import difflib
 import re
-from typing import Collection, Iterable, Optional, Union
+from typing import Callable, Collection, Iterable, Optional, Union
 
 import grammar
 
@@ -11,6 +11,9 @@ LONGEST = 255
 # What a number of very many digits is read as, which fits nowhere: Python itself reads no more than 4,300 digits.
 UNFIT = 1 << 128
 MOST_DIGITS = 38
+
+# The cause of a bad line and the sentence of what is wrong with it, or None of a good one.
+Fault = Optional[tuple[int, str]]
 
 # A line of a script that certainly means something. It decides most lines at once.
 GOOD = re.compile(
@@ -93,7 +96,7 @@ def wrong_number(words: list[str], kinds: Collection[str] = ()) -> Optional[str]
     return None
 
 
-def script_fault(line: bytes) -> Optional[tuple[int, str]]:
+def script_fault(line: bytes) -> Fault:
     """The cause and the sentence of what is wrong with a line of a script, or None."""
     unread = unreadable(line)
     if unread:
@@ -111,11 +114,12 @@ def script_fault(line: bytes) -> Optional[tuple[int, str]]:
     return (2, found) if found else None
 
 
-def first_fault(script: bytes) -> Optional[tuple[int, int, str]]:
-    """The number of the first line of a script with no meaning, its cause and the sentence of what is wrong; or None."""
+def first_fault(script: bytes, judge: Callable[[bytes], Fault] = script_fault) -> Optional[tuple[int, int, str]]:
+    """The number of the first line of a script with no meaning, its cause and the sentence of what is wrong; or None. Lines that
+    the program has are good ones for each judge."""
     for number, line in enumerate(script.split(b"\n"), 1):
         if not (len(line) <= LONGEST and GOOD.fullmatch(line)):
-            found = script_fault(line)
+            found = judge(line)
             if found:
                 return number, *found
     return None

@@ -16,6 +16,7 @@ import idle
 import lines as texts
 import names
 import objects
+import outages
 import permits
 import program
 import reached
@@ -271,7 +272,7 @@ def script_in_numbers(path: str) -> tuple[list[str], list[str]]:
     """The lines of a script in numbers, and as they are written. Each has a meaning."""
     content = program.read_file(path)
     made = to_numbers.in_numbers(content, path)
-    fault = texts.first_fault(made)
+    fault = outages.first_fault(made)
     if fault:
         raise BadLine(f"{faults.name_of(path)}:{fault[0]}: {fault[2]}")
     return made.decode("ascii").split("\n"), content.decode("latin-1").split("\n")

@@ -1,10 +1,13 @@
 """A script over an object and a chip, and what the program writes of it."""
 
 import os
-from typing import NamedTuple, Optional
+from typing import NamedTuple, Optional, Sequence
 
+import faults
+import outages
 from chip import Chip
-from program import run_text, write_file
+from forms import BAD_LINE
+from program import Failed, run_text, write_file
 
 
 class Unit(NamedTuple):
@@ -21,12 +24,41 @@ class Run(NamedTuple):
     chip: Chip
     room: str  # a folder for files
 
-    def lines_of(self, content: bytes, name: Optional[str] = None) -> list[str]:
-        """The lines of the replay of a script; `name` is that of its file, if it has one."""
+    def written(self, content: bytes, name: Optional[str] = None) -> list[str]:
+        """What the program writes of a script in its own lines; `name` is that of the script's file, if it has one."""
         path = os.path.join(self.room, "script")
         write_file(path, content)
         topology = self.chip.words()
         return run_text(["replay", self.obj, path, *topology], ["replay", self.obj, name or path, *topology])
+
+    def turned(self, content: bytes, name: Optional[str] = None) -> tuple[outages.Turned, list[str]]:
+        """The lines of the program for a script, and what it writes of them. What it says of a fault is of the script's own lines."""
+        if not outages.may_have_any(content):
+            script = script_lines(content)
+            return outages.Turned(script, list(range(1, len(script) + 1))), self.written(content, name)
+        tries: list[outages.Turned] = []
+
+        def run(made: outages.Turned) -> list[str]:
+            tries.append(made)
+            return self.written(content_of(made.lines), name)
+
+        try:
+            return outages.run_by(outages.lines_of(content), run)
+        except Failed as failed:
+            raise by_own_lines(failed, tries[-1].numbers, content, faults.name_of(name or "script")) from None
+
+    def lines_of(self, content: bytes, name: Optional[str] = None) -> list[str]:
+        """The lines of the replay of a script, by the numbers of its own lines."""
+        made, written = self.turned(content, name)
+        return outages.by_lines(written, made.numbers)
+
+
+def by_own_lines(failed: Failed, numbers: Sequence[int], content: bytes, name: str) -> Failed:
+    """A fault of the program over the lines that a script was turned into, told by the script's own lines."""
+    output = "".join(line + "\n" for line in outages.by_lines(failed.output.decode("latin-1").splitlines(), numbers))
+    found = outages.first_fault(content) if failed.status == BAD_LINE else None
+    said = f"{name}:{found[0]}: {found[2]}" if found else failed.sentence
+    return Failed(output.encode("latin-1"), failed.status, said)
 
 
 def script_lines(content: bytes) -> list[str]:

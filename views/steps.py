@@ -9,6 +9,7 @@ device follows each step. Which clocks run follows from the book.
 from typing import NamedTuple, Optional
 
 import modes
+import outages
 import split
 from program import run_text
 from replays import Run, Unit, closing_of, content_of, master_masks, script_lines
@@ -39,9 +40,9 @@ class Moment(NamedTuple):
 class Replay(NamedTuple):
     """A replay, and that of the script which has a line of its own for each core event."""
 
-    lines: list[str]  # that the program writes
+    lines: list[str]  # that the program writes, by the numbers of the script's own lines
     cores: list[str]  # that it writes over the second script: the same ones by other numbers, but for those that lines write themselves
-    script: list[str]  # the second script
+    script: list[str]  # the second script, which has the program's lines alone
     numbers: list[int]  # of each of its lines, that of the line which it comes from
 
 
@@ -60,12 +61,13 @@ def of_cores(lines: list[str]) -> list[str]:
 
 def replay_of(run: Run, content: bytes, name: Optional[str] = None) -> Replay:
     """The replay of a script in numbers, from the file of that name."""
-    script, lines = script_lines(content), run.lines_of(content, name)
-    if not split.is_split(script):
-        return Replay(lines, of_cores(lines), script, list(range(1, len(script) + 1)))
+    made, written = run.turned(content, name)
+    lines = outages.by_lines(written, made.numbers)
+    if not split.is_split(made.lines):
+        return Replay(lines, of_cores(written), made.lines, made.numbers)
     masks = master_masks(run_text(["print", run.obj]))
-    cores, numbers = split.split(script, masks, run.chip.owners[split.CALLER])
-    return Replay(lines, of_cores(run.lines_of(content_of(cores))), cores, numbers)
+    cores, numbers = split.split(made.lines, masks, run.chip.owners[split.CALLER])
+    return Replay(lines, of_cores(run.written(content_of(cores))), cores, [made.numbers[number - 1] for number in numbers])
 
 
 def commands_of(lines: list[str], count: int) -> list[list[Command]]:

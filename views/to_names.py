@@ -22,7 +22,7 @@ def ipi_mask_name(mask: int) -> Optional[str]:
 def word_in_names(kind: str, word: str, masters: dict[int, int]) -> str:
     """A number of a kind by its name, or the word as it is where it has none."""
     value = lines.number_of(word)
-    if value is None:
+    if value is None or kind == "plain":
         return word
     if kind == "mask":
         return mask_name(value, masters) or word

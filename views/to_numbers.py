@@ -1,7 +1,8 @@
 """`--numbers FILE`: a script or the text of an object that is written with names, in numbers.
 
-A number is put in the place of each name. All else stays as it is: the spaces, the comments, the number of each line.
-A word that is no name is left for the program to judge. In a text a mask is written with the masters whose bits it
+A number is put in the place of each name. All else stays as it is: the spaces, the comments, the number of each line; but a
+line `break N for K` becomes `break N`, and before the line with which it ends a line `mend N` is put in. A word that is no
+name is left for the program to judge. In a text a mask is written with the masters whose bits it
 has, by the `master` lines of that text: `slave UART_1 0 RPU_0` or `slave UART_1 SHAREABLE APU|RPU_0`.
 """
 
@@ -15,6 +16,7 @@ import faults
 import grammar
 import lines
 import names
+import outages
 from program import BadUse, read_file
 
 # Kinds whose one is called otherwise in a fault.
@@ -59,7 +61,7 @@ def bits_of(kind: str, word: str, masters: dict[int, int]) -> Optional[int]:
 
 def translated(kind: str, word: str, masters: dict[int, int]) -> str:
     """A word of a kind with a number in place of its names."""
-    if not NAME.fullmatch(word):
+    if kind == "plain" or not NAME.fullmatch(word):
         return word
     number = bits_of(kind, word, masters) if kind in SETS else number_of(kind, word, masters)
     if number is None:
@@ -110,6 +112,8 @@ def kinds_of(words: Sequence[str]) -> Optional[tuple[str, ...]]:
         return kinds_of_message(words)
     if words[0] == "smc":
         return kinds_of_power_call(words)
+    if outages.is_outage(words):
+        return outages.KINDS
     form = grammar.SCRIPT.get(words[0], grammar.TEXT.get(words[0]))
     return form.kinds if form and form.kinds else None
 
@@ -155,6 +159,15 @@ def in_numbers(content: bytes, name: str) -> bytes:
     return "\n".join(made).encode("latin-1")
 
 
+def of_the_program(script: bytes, name: str) -> bytes:
+    """A script in numbers that has outages, in the program's lines alone."""
+    own = outages.lines_of(script)
+    single = next(outages.singles(own), None)
+    if single:
+        raise BadUse(f"{name}:{single.line}: where 'fail {single.node} once' ends shows in a run alone: ./pmu --names replay takes the script")
+    return "".join(line + "\n" for line in outages.turned(own, {}).lines).encode("latin-1")
+
+
 def main(words: list[str]) -> int:
     """Writes a file in numbers, and gives the exit."""
     if len(words) != 1:
@@ -163,5 +176,6 @@ def main(words: list[str]) -> int:
     kind = faults.kind_of(content)
     if kind in ("is an object", "is an ELF file", "is a C file"):
         raise BadUse(f"{faults.name_of(words[0])} {kind}, and a script or the text of an object is wanted")
-    sys.stdout.buffer.write(in_numbers(content, words[0]))
+    made = in_numbers(content, words[0])
+    sys.stdout.buffer.write(of_the_program(made, faults.name_of(words[0])) if outages.may_have_any(made) else made)
     return 0

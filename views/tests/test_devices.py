@@ -1,6 +1,6 @@
 """The views over a device that fails: what the book says and what the device took are those of the program.
 
-Each example, and scripts that are made by chance with lines `break` and `mend` among them, run through the steps, the dump and
+Each example, and scripts that are made by chance with lines about the device among them, run through the steps, the dump and
 the comparison. The last values are those of the closing table, in the book and at the device, and the units that differ are those
 that `isolate` lists.
 """
@@ -13,6 +13,7 @@ import unittest
 import chip as chips
 import diff
 import moves
+import outages
 import permits
 import picture
 import program as programs
@@ -93,6 +94,7 @@ def one_line(chance, board, slaves):
         f"smc {chance.choice(procs)} {chance.choice([0x84000002, 0xC4000003, 0x84000008, 0x84000009])} {chance.randrange(3)} 0",
     ]
     devices = [f"break {chance.choice([slave, slave, power, proc])}", f"break {slave}", f"mend {chance.choice([slave, power, proc])}"]
+    devices += [f"break {chance.choice([slave, power])} for {chance.randrange(1, 4)}", f"fail {slave} once"]
     return chance.choice(devices if chance.random() < 0.35 else forms)
 
 
@@ -131,7 +133,7 @@ class Devices(Case):
 
     def check_isolate(self, board, path, content, node, run):
         """The units that move otherwise without a master's messages are those that `isolate` lists."""
-        script = self.file("all.script", content)
+        script = self.file("all.script", outages.plain(content))
         second, silenced = diff.without_messages(content, node)
         if not silenced:
             return 0
