@@ -57,6 +57,38 @@ enum {
     PMU_CLOSED = 19        /* the handle holds no controller */
 };
 
+/* The text of an answer, as `the text doesn't fit the buffer`; of a number that no call answers `an unknown answer`.
+ * It is there as long as the program runs, and isn't freed. */
+static inline const char *pmu_strerror(uint32_t answer)
+{
+    switch (answer) {
+    case PMU_DONE:
+        return "all was done";
+    case PMU_BAD_OBJECT:
+        return "the bytes are no configuration object";
+    case PMU_BAD_LINE:
+        return "a line of the script has no meaning";
+    case PMU_READ_FAULT:
+        return "the input can't be read";
+    case PMU_NO_ROOM:
+        return "the text doesn't fit the buffer";
+    case PMU_NO_MEMORY:
+        return "memory is wanted";
+    case PMU_TOO_LARGE:
+        return "the script is too large";
+    case PMU_COMMAND_LEFT:
+        return "a command of the last step waits for its answer";
+    case PMU_NO_COMMAND:
+        return "no command waits for its answer";
+    case PMU_NO_NODE:
+        return "the chip has no such node, or the object no such master";
+    case PMU_CLOSED:
+        return "the handle holds no controller";
+    default:
+        return "an unknown answer";
+    }
+}
+
 /* ---- A whole run ------------------------------------------------------------------------------------------------ */
 
 /* Runs a script over a configuration object, the topology of the chip and a new device in memory, as `pmu replay

@@ -24,6 +24,8 @@ int main(void)
     if (pmu_text(pmu, 1, text, sizeof text, &written) != PMU_DONE)
         return 3;
     printf("%d.%d.%d %.*s", PMU_VERSION_MAJOR, PMU_VERSION_MINOR, PMU_VERSION_PATCH, (int)written, (const char *)text);
+    if (pmu_open(object, 0, &pmu) != PMU_BAD_OBJECT || pmu_strerror(PMU_BAD_OBJECT)[0] != 't')
+        return 4;
     pmu_close(pmu);
     return 0;
 }
