@@ -23,10 +23,15 @@ put_program() {
         put_link ../lib/pmu/pmu bin/pmu
 }
 
+# The part of the version that names an interface: the first number, and while that is 0 the second one too.
+interface() {
+    case $number in 0.*) echo "${number%.*}" ;; *) echo "${number%%.*}" ;; esac
+}
+
 # Makes the shared object of the archives, if a C compiler can.
 link_shared() {
     command -v "${CC:-cc}" >/dev/null &&
-        "${CC:-cc}" -shared -Wl,-soname,"libpmu.so.${number%%.*}" -o "$room/libpmu.so" -Wl,--whole-archive "$library/libpmu.a" \
+        "${CC:-cc}" -shared -Wl,-soname,"libpmu.so.$(interface)" -o "$room/libpmu.so" -Wl,--whole-archive "$library/libpmu.a" \
             "$library/libpmu_memory.a" -Wl,--no-whole-archive >"$room/log" 2>&1
 }
 
@@ -39,8 +44,8 @@ put_library() {
     fi
     put 644 "$library/libpmu.a" lib/libpmu.a && put 644 "$library/libpmu_memory.a" lib/libpmu_memory.a || return
     if link_shared; then
-        put 755 "$room/libpmu.so" "lib/libpmu.so.$number" && put_link "libpmu.so.$number" "lib/libpmu.so.${number%%.*}" &&
-            put_link "libpmu.so.${number%%.*}" lib/libpmu.so || return
+        put 755 "$room/libpmu.so" "lib/libpmu.so.$number" && put_link "libpmu.so.$number" "lib/libpmu.so.$(interface)" &&
+            put_link "libpmu.so.$(interface)" lib/libpmu.so || return
     else
         say "no shared object is installed: no C compiler links the archives as one"
     fi
@@ -56,6 +61,13 @@ Cflags: -I\${includedir}
 Libs: -L\${libdir} -lpmu -lpmu_memory
 END_OF_FILE
     put 644 "$room/pmu.pc" lib/pkgconfig/pmu.pc
+}
+
+# Puts the binding for Python, which finds the shared object from there.
+put_binding() {
+    for file in pmu.py pmu_library.py pmu_told.py; do
+        put 644 "$top/bindings/python/$file" "lib/pmu/python/$file" || return
+    done
 }
 
 # Puts the documents and the examples, which these name.
@@ -97,7 +109,7 @@ install_all() {
     room=$(mktemp -d "${TMPDIR:-/tmp}/pmu.XXXXXX") && list=$room/list && : >"$list" || exit 125
     trap 'rm -rf "$room"' EXIT
     remove_listed
-    put_program && put_library && put_documents && put_pages && echo lib/pmu/installed >>"$list" && cp "$list" "$root/lib/pmu/installed" ||
+    put_program && put_library && put_binding && put_documents && put_pages && echo lib/pmu/installed >>"$list" && cp "$list" "$root/lib/pmu/installed" ||
         { say "not all could be put below $root: what was put is removed"; cp "$list" "$root/lib/pmu/installed"; remove_listed; exit 125; }
     say "$(wc -l <"$list") files are installed below $root; ./pmu --uninstall $prefix removes them"
 }

@@ -2,13 +2,14 @@
 import os
 import shutil
 import subprocess
+import sys
 import unittest
 
 from common import EXAMPLE, HERE, PROGRAMS, Tree, read, write
 
 PROGRAM_FILES = {"bin/pmu", "lib/pmu/pmu", "lib/pmu/program", "lib/pmu/version", "lib/pmu/installed", "lib/pmu/wrapper/kept.sh", "lib/pmu/views/run.py"}
-LIBRARY_FILES = {"lib/libpmu.a", "lib/libpmu_memory.a", "lib/libpmu.so", "lib/libpmu.so.0", "lib/libpmu.so.0.1.0", "lib/pkgconfig/pmu.pc"}
-ALWAYS = {"include/pmu.h", "include/pmu_eemi.h", "share/man/man1/pmu.1", "share/man/man3/pmu.3", "share/doc/pmu/docs/FORMATS.md", "share/doc/pmu/examples/two-masters.obj"}
+LIBRARY_FILES = {"lib/libpmu.a", "lib/libpmu_memory.a", "lib/libpmu.so", "lib/libpmu.so.0.1", "lib/libpmu.so.0.1.0", "lib/pkgconfig/pmu.pc"}
+ALWAYS = {"include/pmu.h", "include/pmu_eemi.h", "share/man/man1/pmu.1", "share/man/man3/pmu.3", "lib/pmu/python/pmu.py", "share/doc/pmu/docs/FORMATS.md", "share/doc/pmu/examples/two-masters.obj"}
 
 
 class Install(Tree):
@@ -89,9 +90,19 @@ class Install(Tree):
                 self.assertEqual((ran.returncode, ran.stdout, ran.stderr), (0, b"0.1.0 1 reply 1 0 65537 0 0\n", b""))
                 built += 1
         self.assertGreater(built, 1)
-        os.unlink(f"{self.prefix}/lib/libpmu.so.0")
+        os.unlink(f"{self.prefix}/lib/libpmu.so.0.1")
         ran = subprocess.run([f"{self.room}/cc.shared"], env={"LD_LIBRARY_PATH": f"{self.prefix}/lib"}, capture_output=True, check=False)
-        self.assertIn(b"libpmu.so.0", ran.stderr)
+        self.assertIn(b"libpmu.so.0.1:", ran.stderr)
+
+    def test_the_binding_for_python_loads_the_installed_library(self):
+        self.make_library()
+        self.install()
+        # (the one that stands for the real one lacks what it doesn't use)
+        load = "import pmu\ntry:\n    pmu.load()\nexcept pmu.NoLibrary as fault:\n    print(fault)"
+        ran = subprocess.run([sys.executable, "-Bc", load], env={"PYTHONPATH": f"{self.prefix}/lib/pmu/python"}, capture_output=True, check=False)
+        self.assertEqual((ran.returncode, ran.stderr), (0, b""))
+        self.assertIn(f"{os.path.realpath(self.prefix)}/lib/".encode(), os.path.normpath(ran.stdout))
+        self.assertIn(b"undefined symbol: pmu_replay", ran.stdout)
 
     def flags(self):
         """What the file for pkg-config says, read by itself if that is there."""
