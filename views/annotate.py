@@ -7,7 +7,7 @@ lines are the text of an object. The script, the text and NODE may be written wi
 import os
 import sys
 import tempfile
-from typing import Callable, Iterable, Iterator, NamedTuple, Sequence
+from typing import Callable, Iterable, Iterator, NamedTuple, Optional, Sequence
 
 import chip as chips
 import faults
@@ -64,10 +64,16 @@ class Shown(NamedTuple):
         """The lines with their meanings behind them."""
         return "".join(line + "\n" for line in (*put_together(self.lines, self.meanings), *self.besides))
 
-    def in_json(self) -> str:
-        """A list of the lines with their meanings."""
-        shown = [{"line": line, "meaning": meaning} for line, meaning in zip(self.lines, self.meanings)]
-        return findings.in_json(shown + [{"line": "", "meaning": line} for line in self.besides])
+    def in_json(self, form: str) -> str:
+        """The lines with their meanings, as JSON."""
+        lines = [{**line_of(form, line), "text": line, "meaning": meaning} for line, meaning in zip(self.lines, self.meanings)]
+        return findings.whole("--names", 0, form=form, lines=lines, besides=list(self.besides))
+
+
+def line_of(form: str, text: str) -> dict[str, Optional[int]]:
+    """The line of the script that a line of a replay is of: 0 is the load, and none of a line of the closing table."""
+    first = text.split(" ", 1)[0]
+    return {"line": None if first == "end" else int(first)} if form == "replay" else {}
 
 
 def chip_of(obj: str, topology: Sequence[str]) -> Chip:
@@ -144,5 +150,5 @@ def main(words: list[str]) -> int:
         raise BadUse("--names is followed by replay, reach, isolate, print or build with its words, as in ./pmu --help")
     with tempfile.TemporaryDirectory() as room:
         shown = FORMS[first][0](room, *rest)
-    print(shown.in_json() if is_json else shown.in_lines(), end="")
+    print(shown.in_json(first) if is_json else shown.in_lines(), end="")
     return 0

@@ -216,14 +216,14 @@ def thing_in_json(thing: Thing, answers: dict[int, Answers]) -> dict[str, Any]:
     """A thing that a device asks for, and who gets it."""
     to = {names.node_name(it): answers[it].said.get(thing, "no answer") for it in answers}
     may = [names.node_name(it) for it in answers if answers[it].status.get(thing) in GRANTED]
-    return {"kind": thing.kind, "number": thing.number, "name": thing.name, "permitted": may, "answers": to}
+    return {**findings.unit(thing.kind, thing.number), "permitted": may, "answers": to}
 
 
 def in_json(found: Asked, master: int, answers: dict[int, Answers], chip: chips.Chip) -> dict[str, Any]:
     """All of a report for a program."""
     devices = [{"name": it.name, "asks": [thing_in_json(thing, answers) for thing in it.things]} for it in found.devices]
     left = left_over(found, master, answers, chip)
-    return {"master": names.node_name(master), "devices": devices, "unknown clocks": sorted(set(found.unknown)), "unasked": left}
+    return {"master": names.node_name(master), "devices": devices, "unknown_clocks": sorted(set(found.unknown)), "unasked": left}
 
 
 def report(found: Asked, master: int, answers: dict[int, Answers], chip: chips.Chip) -> tuple[list[str], int]:
@@ -270,6 +270,8 @@ def main(words: list[str]) -> int:
     with tempfile.TemporaryDirectory() as room:
         answers = {it.node: answers_of(path, board, it.node, things, room) for it in board.found.records("master")}
     said, status = report(found, master, answers, board.chip)
-    text = findings.in_json(in_json(found, master, answers, board.chip)) if is_json else "".join(line + "\n" for line in said)
-    print(text, end="")
+    if is_json:
+        print(findings.whole("dts", status, **in_json(found, master, answers, board.chip)), end="")
+    else:
+        print("".join(line + "\n" for line in said), end="")
     return status

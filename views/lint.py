@@ -334,11 +334,12 @@ def main(words: list[str]) -> int:
     """Writes what is to be said of an object and a script, and gives the exit."""
     asked = options(words)
     found = found_in(asked)
+    status = FOUND if asked.is_strict and any(each.level == WARNING for each in found) else 0
     if asked.form == "--sarif":
         said = findings.in_sarif("pmu lint", RULES, found)
     elif asked.form == "--json":
-        said = findings.in_json([each.as_json() for each in found])
+        said = findings.whole("lint", status, findings=[each.as_json() for each in found])
     else:
         said = findings.in_lines(found)
     print(said, end="")
-    return FOUND if asked.is_strict and any(each.level == WARNING for each in found) else 0
+    return status

@@ -74,7 +74,7 @@ def main(words: list[str]) -> int:
     """Writes each name on a line of its own, or all as a list for a robot, and gives the exit."""
     if words not in ([], ["--json"]):
         raise BadUse("names takes no words but --json: search what it writes")
-    print(findings.in_json(in_json()) if words else "".join(line + "\n" for line in lines()), end="")
+    print(findings.whole("names", 0, names=in_json()) if words else "".join(line + "\n" for line in lines()), end="")
     return 0
 
 

@@ -10,7 +10,6 @@ import itertools
 from dataclasses import replace
 from typing import Iterator, NamedTuple, Optional, Sequence
 
-import names
 import objects
 import permits
 from chip import Board
@@ -175,18 +174,26 @@ def lost(board: Board, before: objects.Record, after: objects.Record) -> str:
     return ", ".join(said)
 
 
-def lines(board: Board, questions: Sequence[Question]) -> list[str]:
-    """The fewest records to change, each as the text before and after."""
+class Change(NamedTuple):
+    """A record to change."""
+
+    before: objects.Record
+    after: objects.Record
+    lost: str  # which masters it no longer has
+
+
+class Repair(NamedTuple):
+    """The records to change, in the order of the object; or what no change of records makes hold."""
+
+    changes: list[Change]
+    unmet: list[Question]
+
+
+def repair(board: Board, questions: Sequence[Question]) -> Repair:
+    """The fewest records to change so that no unit in question is in a reach."""
     unmet = [asked for asked in questions if fewest(board, [asked]) is None]
     if unmet:
-        what = [f"{asked.kind} {names.line_name(asked.unit) if asked.kind == permits.LINE else names.node_name(asked.unit)}" for asked in unmet]
-        return [f"no change of records takes {unit} out of the reach of {names.node_name(it.master)}" for it, unit in zip(unmet, what)]
-    changed = fewest(board, questions) or frozenset()
-    records = mended(board, questions, changed)
-    found = [f"the fewest records to change so that all rules hold: {len(changed)}"]
-    for section in board.found.sections:
-        for record in section.records:
-            if record.offset in records:
-                after = records[record.offset]
-                found += [f"- {record}  # word {record.place}", f"+ {after}  # {lost(board, record, after)}"]
-    return found
+        return Repair([], unmet)
+    records = mended(board, questions, fewest(board, questions) or frozenset())
+    before = [record for section in board.found.sections for record in section.records if record.offset in records]
+    return Repair([Change(it, records[it.offset], lost(board, it, records[it.offset])) for it in before], [])

@@ -7,20 +7,22 @@ with all that it writes; and the object in names. It loads nothing, and can be k
 import re
 import tempfile
 from html import escape
-from typing import Iterable, Iterator, Optional
+from typing import Iterator, Optional
 
 import annotate
+import breaches
 import chip as chips
 import faults
 import idle
 import meanings
 import names
 import objects
+import options
 import page
 import permits
 import picture
-import policy
 import replay_meanings
+import rules
 import steps
 import testing
 import to_names
@@ -32,7 +34,7 @@ from program import BadUse, read_file, run_text
 from replays import script_lines
 
 USAGE = "report takes an OBJ, a SCRIPT or none, and --policy FILE and --topology TOPO before them, and -o names the page"
-OPTIONS = ("--policy", "--topology")
+OPTIONS = {"--policy": True, "--topology": True}
 
 # So many lines of a script are shown, and so many are drawn.
 MOST_SHOWN, MOST_DRAWN = 5_000, 400
@@ -104,12 +106,11 @@ def of_reaches(path: str, board: chips.Board) -> str:
 
 def of_policy(path: str, board: chips.Board, file: str) -> str:
     """The section of a policy: what it finds."""
-    rules = policy.read(file, board)
-    found, status = policy.report(board, rules, policy.reaches_of(path, board))
+    found = breaches.judged(path, board, rules.read(file, board))
     verdict = {BROKEN: ("A rule is broken.", "bad"), NOT_JUDGED: ("All rules hold; some records are not judged by any.", "")}
-    head = page.tag("p", page.text(*verdict.get(status, ("All rules hold.", "good"))))
+    head = page.tag("p", page.text(*verdict.get(found.status, ("All rules hold.", "good"))))
     text = page.tag("pre", escape(read_file(file).decode("utf-8", "replace")))
-    return head + page.tag("pre", escape("\n".join(found))) + page.tag("div", page.folded("The rules", text), class_="fold")
+    return head + page.tag("pre", escape("\n".join(found.lines()))) + page.tag("div", page.folded("The rules", text), class_="fold")
 
 
 # The script.
@@ -218,29 +219,15 @@ def facts(path: str, board: chips.Board, script: Optional[str]) -> str:
     return page.tag("p", escape(said + (f" Script {faults.name_of(script)}." if script else "")), class_="faint")
 
 
-def options_of(words: Iterable[str]) -> tuple[dict[str, str], list[str]]:
-    """The options, each with its word, and the other words."""
-    rest, found, others = list(words), {}, []
-    while rest:
-        word = rest.pop(0)
-        if word not in OPTIONS:
-            others.append(word)
-        elif rest:
-            found[word] = rest.pop(0)
-        else:
-            raise BadUse(f"{word} is the last word, and no file follows it")
-    return found, others
-
-
 def main(words: list[str]) -> int:
     """`report [--policy FILE] [--topology TOPO] OBJ [SCRIPT]`."""
-    options, others = options_of(words)
+    given, others = options.taken(words, OPTIONS, USAGE)
     if len(others) not in (1, 2):
         raise BadUse(USAGE)
     path, script = others[0], others[1] if others[1:] else None
-    topology = [options["--topology"]] if "--topology" in options else []
+    topology = [given["--topology"]] if "--topology" in given else []
     board = chips.chosen(path, objects.load(path), topology)
-    found = list(sections_of(path, board, script, options.get("--policy")))
+    found = list(sections_of(path, board, script, given.get("--policy")))
     title = faults.name_of(path).rpartition("/")[2] + (f" and {faults.name_of(script).rpartition('/')[2]}" if script else "")
     content = facts(path, board, script) + "".join(page.section(*part) for part in found)
     print(page.whole(title, content, [(anchor, name) for anchor, name, _ in found]), end="")

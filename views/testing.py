@@ -16,6 +16,7 @@ import faults
 import findings
 import judged
 import objects
+import options
 import to_names
 import to_numbers
 from chip import Chip
@@ -26,6 +27,7 @@ from replays import Run, content_of, script_lines
 from target import Target
 from told import in_one_line, tell
 
+USAGE = "test takes an OBJ and one SCRIPT or more, as in ./pmu test --help"
 # The options, and whether a word follows each.
 OPTIONS = {"--tap": False, "--all": False, "--json": False, "--junit": True, "--topology": True}
 
@@ -146,22 +148,6 @@ def case(of: str, name: str, instead: Optional[str], kind: str = "failure") -> s
     return f"{head}><{kind} message={quoteattr(in_one_line(instead))}/></testcase>\n" if instead else head + "/>\n"
 
 
-def options_of(words: list[str]) -> tuple[dict, list[str]]:
-    """The options among the words, and the words without them."""
-    given, others, rest = {}, [], list(words)
-    while rest:
-        word = rest.pop(0)
-        if word not in OPTIONS:
-            others.append(word)
-        elif not OPTIONS[word]:
-            given[word] = True
-        elif rest:
-            given[word] = rest.pop(0)
-        else:
-            raise BadUse(f"{word} is the last word, and no file follows it")
-    return given, others
-
-
 def status_of(outcomes: list[Outcome]) -> int:
     """The exit: that of the first script which can't run, then a difference, then a script of which nothing is expected."""
     failed = [it.status for it in outcomes if it.failed]
@@ -179,9 +165,9 @@ def chip_of(obj: str, topology: list[str]) -> Chip:
 
 def main(words: list[str]) -> int:
     """`test [--all | --tap | --json] [--junit FILE] [--topology TOPO] OBJ SCRIPT..`."""
-    given, others = options_of(words)
+    given, others = options.taken(words, OPTIONS, USAGE)
     if len(others) < 2:
-        raise BadUse("test takes an OBJ and one SCRIPT or more, as in ./pmu --help")
+        raise BadUse(USAGE)
     obj, *scripts = others
     chip = chip_of(obj, [given["--topology"]] if "--topology" in given else [])
     target = Target(given["--junit"]) if "--junit" in given else None
@@ -196,7 +182,7 @@ def main(words: list[str]) -> int:
     if "--tap" in given:
         as_tap(outcomes)
     elif "--json" in given:
-        print(findings.in_json(as_json(outcomes)), end="")
+        print(findings.whole("test", status_of(outcomes), scripts=as_json(outcomes)), end="")
     else:
         plainly(outcomes, "--all" in given)
     for it in outcomes:

@@ -297,14 +297,16 @@ class Names(Case):
 
     def test_the_lines_with_their_meanings_as_json(self):
         words = ["replay", example("laboratory.obj"), example("sleep.script")]
-        listed = json.loads(self.text("--names", "--json", *words))
-        self.assertEqual([it["line"] for it in listed], program(*words)[1].decode().splitlines())
+        found = json.loads(self.text("--names", "--json", *words))
+        listed = found["lines"]
+        self.assertEqual((found["view"], found["exit"], found["form"], found["besides"]), ("--names", 0, "replay", []))
+        self.assertEqual([it["text"] for it in listed], program(*words)[1].decode().splitlines())
+        self.assertEqual(["end" if it["line"] is None else str(it["line"]) for it in listed], [it["text"].split()[0] for it in listed])
         shown = [line.partition("# ")[2] for line in self.text("--names", *words).splitlines()]
         self.assertEqual([it["meaning"] for it in listed], shown)
         # (the comments of a reach are lines of their own)
         words = ["reach", example("pm_cfg_obj.obj"), "RPU_0"]
-        meanings = [it["meaning"] for it in json.loads(self.text("--names", "--json", *words)) if not it["line"]]
-        self.assertEqual(meanings, [line for line in self.text("--names", *words).splitlines() if line.startswith("#")])
+        self.assertEqual(json.loads(self.text("--names", "--json", *words))["besides"], [line for line in self.text("--names", *words).splitlines() if line.startswith("#")])
         self.assertIn("--names is followed by", self.refused("--names", "--json", "build", example("two-masters.txt")))
 
     def test_bad_use(self):

@@ -98,7 +98,7 @@ class Chip(Case):
         path = self.object_of(BY_LINE.format(line=1054))
         bad = self.file("bad.topology", "power 1 2 3\n")
         status, output, errors = view("--dot", "reach", path, "1", bad)
-        self.assertEqual((status, output), (8, b"fault text 1 1\n"), errors)
+        self.assertEqual((status, output), (8, b""), errors)
         self.assertIn(b"bad.topology:1: ", errors)
         with unittest.mock.patch.dict(os.environ, {"PMU_PROGRAM": ""}):
             self.assertIn("is the text of an object, and a script or the text of a topology is wanted", self.refused("lint", path, example("two-masters.txt")))

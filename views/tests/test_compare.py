@@ -71,7 +71,7 @@ class Compare(Case):
     def test_each_member_of_one_reach_alone_is_told(self):
         first, second = board_of(example("pm_cfg_obj.obj")), board_of(example("three-masters.obj"))
         boards = compare.Board(first.found, first.chip), compare.Board(second.found, first.chip)
-        text = "\n".join(compare.lines_of(*boards))
+        text = "\n".join(compare.lines_of(compare.differences(*boards)))
         for node in (1, 7, 8):
             reaches = [{(it.kind, it.number) for it in permits.reach(board, node)} for board in boards]
             steps = [{master: compare.steps_of(board, master) for master in permits.masters(board)} for board in boards]
@@ -80,8 +80,8 @@ class Compare(Case):
         self.assertIn("may do itself", text)
 
     def test_bad_use(self):
-        for words in ([], ["a"], ["a", "b", "c", "d"]):
-            self.assertEqual(self.refused("compare", *words), "pmu: usage: ./pmu compare OBJ OBJ [TOPO]")
+        for words in ([], ["a"], ["a", "b", "c", "d"], ["--json", "--json", "a", "b"]):
+            self.assertEqual(self.refused("compare", *words), f"pmu: {compare.USAGE}")
         self.assertEqual(view("compare", example("laboratory.obj"), example("laboratory.txt"))[0], 2)
 
 

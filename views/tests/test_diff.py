@@ -143,12 +143,11 @@ class Text(Case):
     def test_bad_use(self):
         script = self.file("script", SCRIPT)
         for words in ([], ["a", "b"], ["a", "b", "c", "d", "e"]):
-            self.assertEqual(self.refused("diff", *words), "pmu: usage: ./pmu diff OBJ SCRIPT NODE [TOPO]")
+            self.assertEqual(self.refused("diff", *words), f"pmu: {diff.USAGE}")
         self.assertEqual(view("diff", example("laboratory.obj"), script + ".none", "1")[:2], (4, b""))
-        self.assertEqual(view("diff", example("laboratory.obj"), script, "8")[:2], (8, b"fault node\n"))
-        self.assertEqual(view("diff", script, script, "1")[:2], (2, program("print", script)[1]))
-        status, output, _ = view("diff", example("two-masters.obj"), self.file("bad", "ipi 1 21\nwhat\n"), "1")
-        self.assertEqual((status, output.splitlines()[-1]), (3, b"fault line 2 1"))
+        self.assertEqual(view("diff", example("laboratory.obj"), script, "8")[:2], (8, b""))
+        self.assertEqual(view("diff", script, script, "1")[:2], (2, b""))
+        self.assertEqual(view("diff", example("two-masters.obj"), self.file("bad", "ipi 1 21\nwhat\n"), "1")[:2], (3, b""))
 
 
 class Messages(unittest.TestCase):

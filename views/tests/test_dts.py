@@ -129,7 +129,8 @@ class Refusals(Case):
     def test_in_json(self):
         status, output, _ = view("dts", "--json", example("pm_cfg_obj.obj"), example("board.dtb"))
         found = json.loads(output)
-        self.assertEqual((status, found["master"], found["unknown clocks"]), (102, "APU", ["LPD_LSBUS"]))
+        self.assertEqual((status, found["master"], found["unknown_clocks"]), (102, "APU", ["LPD_LSBUS"]))
+        self.assertEqual((found["view"], found["exit"]), ("dts", 102))
         asks = found["devices"][1]["asks"][0]
         self.assertEqual((asks["kind"], asks["number"], asks["name"], asks["permitted"]), ("slave", 34, "UART_1", ["RPU_0"]))
         self.assertEqual(asks["answers"], {"APU": "no access", "RPU_0": "double request", "RPU_1": "no access"})

@@ -229,7 +229,9 @@ class Lint(Case):
 
     def test_json(self):
         path, script = example("laboratory.obj"), self.file("s", "wfi 99\n")
-        found = json.loads(self.text("lint", "--json", path, script))
+        whole = json.loads(self.text("lint", "--json", path, script))
+        self.assertEqual((whole["view"], whole["exit"]), ("lint", 0))
+        found = whole["findings"]
         self.assertEqual(
             found[0],
             {

@@ -198,7 +198,7 @@ class View(Case):
     def test_each_line_has_a_kind_of_one_word_a_number_and_a_name(self):
         found = [re.fullmatch(r"([a-z-]+) (\d+|0x[0-9a-f]+) ([A-Z]\w*)(?:[,:] (.+))?", line) for line in self.text("names").splitlines()]
         self.assertNotIn(None, found)
-        listed = json.loads(self.text("names", "--json"))
+        listed = json.loads(self.text("names", "--json"))["names"]
         self.assertEqual([[it["kind"], it["number"], it["name"], it["more"]] for it in listed], [[line[1], int(line[2], 0), line[3], line[4] or ""] for line in found])
 
     def test_words_are_refused(self):

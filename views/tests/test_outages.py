@@ -121,8 +121,7 @@ class Outages(Case):
         lines = without_meanings(self.view_of_script("--names", "replay", LABORATORY, self.script))
         self.assertEqual([line for line in lines if re.match("[2-9]|1[01]", line)], WRITTEN.splitlines())
         listed = json.loads(self.view_of_script("--names", "--json", "replay", LABORATORY, self.script))
-        shown = [line["line"] for line in (listed if isinstance(listed, list) else listed["lines"])]
-        self.assertEqual(shown, lines)
+        self.assertEqual([line["text"] for line in listed["lines"]], lines)
 
     def view_of_script(self, *words):
         """What a view writes of the script, of whose last line it may say that it does nothing."""

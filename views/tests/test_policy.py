@@ -5,6 +5,7 @@ import unittest
 
 import names
 import permits
+import policy
 from common import JUDGED, Case, board_of, examples, program, view
 from forms import BROKEN, NOT_JUDGED, UNREADABLE
 
@@ -180,9 +181,9 @@ class Policy(Case):
 
     def test_bad_use(self):
         for words in ([], ["a"], ["a", "b", "c", "d"]):
-            self.assertEqual(self.refused("policy", *words), "pmu: usage: ./pmu policy [--repair] OBJ FILE [TOPO]")
+            self.assertEqual(self.refused("policy", *words), f"pmu: {policy.USAGE}")
         self.assertEqual(view("policy", self.path, self.path + ".none")[:2], (UNREADABLE, b""))
-        self.assertEqual(view("policy", self.file("bad.obj", b"abc"), "none")[:2], (2, b"fault object 1 0\n"))
+        self.assertEqual(view("policy", self.file("bad.obj", b"abc"), "none")[:2], (2, b""))
 
 
 if __name__ == "__main__":

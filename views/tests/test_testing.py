@@ -162,7 +162,9 @@ class Judged(Case):
     def test_in_json(self):
         path = self.script("ipi 1 21 # expect answer NO_ACCESS, answer SUCCESS\n")
         status, output, _ = view("test", "--json", LABORATORY, path)
-        (found,) = json.loads(output)
+        whole = json.loads(output)
+        self.assertEqual((whole["view"], whole["exit"]), ("test", 104))
+        (found,) = whole["scripts"]
         self.assertEqual((status, found["exit"], found["said"]), (104, 104, f"{path}: 1 of 2 expectations met"))
         self.assertEqual(found["expectations"][1], {"line": 1, "place": f"{path}:1", "expected": "answer SUCCESS", "difference": None})
         self.assertIn("and it is SUCCESS", found["expectations"][0]["difference"])
