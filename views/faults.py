@@ -16,7 +16,7 @@ from forms import (
     forms_of,
 )  # fmt: skip
 from grammar import SCRIPT, TOPOLOGY
-from lines import count, first_fault, like, number_of, words_of
+from lines import count, first_fault, like, number_of, reader_of, words_of
 from object_faults import object_sentence, text_cause
 
 if TYPE_CHECKING:
@@ -27,7 +27,7 @@ HELP = "./pmu --help has the forms"
 # The first words that the wrapper takes besides those of the program.
 OTHER_WORDS = (
     "--prove", "--proved", "--help", "--version", "--program", "--names", "--numbers", "--vcd", "--svg", "--dot", "from-c", "lint",
-    "policy", "diff", "compare", "names", "import", "test", "dts", "report",
+    "policy", "diff", "compare", "names", "import", "test", "dts", "report", "--install", "--uninstall",
 )  # fmt: skip
 
 
@@ -242,7 +242,7 @@ def no_master(run: Run) -> str:
     has = f"{name} (it has {' and '.join([', '.join(nodes[:-1]), nodes[-1]] if nodes[1:] else nodes)})" if nodes else name
     node = number_of(run.word("NODE"))
     if node is None or node >= 1 << 32:
-        return f"'{run.word('NODE')}' is no number of a master of {has}"
+        return f"'{run.word('NODE')}' is no number of a master of {has}{reader_of(run.word('NODE'))}"
     return f"node {node} is no master of {has}"
 
 

@@ -84,13 +84,18 @@ def wrong_count(words: list[str], least: int, most: int) -> Optional[str]:
     return f"'{words[0]}' takes {wanted} after it, and {has} {'is' if has == 1 else 'are'} here"
 
 
+def reader_of(word: str) -> str:
+    """What reads a word that looks like a name, behind the sentence that it is no number; nothing of another word."""
+    return "; ./pmu --names reads names" if word[:1].isalpha() and word.isupper() else ""
+
+
 def wrong_number(words: list[str], kinds: Collection[str] = ()) -> Optional[str]:
     """Why a word of a line is no number that fits, or None. The words after the first one are of these kinds."""
     wide_places = [k for k, kind in enumerate(kinds, 2) if kind in grammar.WIDE]
     for k, word in enumerate(words[1:], 2):
         value, wide = number_of(word), 64 if k in wide_places else 32
         if value is None:
-            return f"a number is wanted in word {k}, not '{word}'"
+            return f"a number is wanted in word {k}, not '{word}'{reader_of(word)}"
         if value >= 1 << wide:
             return f"the number in word {k}, {word}, doesn't fit {wide} bits"
     return None

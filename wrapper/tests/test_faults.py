@@ -92,6 +92,7 @@ class Faults(Named):
         first = b"ipi 1 21\n\n"
         cases = [
             (first + b"tick x\n", "s:3: a number is wanted in word 2, not 'x'"),
+            (b"ipi APU 21\n", "s:1: a number is wanted in word 2, not 'APU'; ./pmu --names reads names"),
             (first + b"ipi 1 21 4294967296", "s:3: the number in word 4, 4294967296, doesn't fit 32 bits"),
             (b"boot 2 0x1FFFFFFFFFFFFFFFF\n", "s:1: the number in word 3, 0x1FFFFFFFFFFFFFFFF, doesn't fit 64 bits"),
             (b"boot 2 0X10\n", "s:1: a number is wanted in word 3, not '0X10'"),
@@ -157,7 +158,7 @@ class Faults(Named):
             (b"headr\n", "t:1: no line of an object's text begins with 'headr' (did you mean 'header'?)"),
             (b"header\nsection master\n", "t:2: no section is named 'master' (did you mean 'masters'?)"),
             (head + b"section slaves\nslave 33 1\n", "t:5: 'slave' takes 3 words after it, and 2 are here"),
-            (head + b"section slaves\nslave UART_0 0 1\n", "t:5: a number is wanted in word 2, not 'UART_0'"),
+            (head + b"section slaves\nslave UART_0 0 1\n", "t:5: a number is wanted in word 2, not 'UART_0'; ./pmu --names reads names"),
             (b"\n" * 1048577, "t: the text has more than 1048576 bytes"),
         ]
         for data, sentence in cases:
@@ -169,7 +170,7 @@ class Faults(Named):
 
     def test_nodes(self):
         self.told(["reach", "two-masters.obj", "9"], 8, "node 9 is no master of two-masters.obj (it has 1 and 7)")
-        self.told(["reach", "two-masters.obj", "APU"], 8, "'APU' is no number of a master of two-masters.obj (it has 1 and 7)")
+        self.told(["reach", "two-masters.obj", "APU"], 8, "'APU' is no number of a master of two-masters.obj (it has 1 and 7); ./pmu --names reads names")
         self.told(["isolate", "two-masters.obj", "sleep.script", "0x8"], 8, "node 8 is no master of two-masters.obj (it has 1 and 7)")
         self.told(["reach", "two-masters.obj", "4294967297"], 8, "'4294967297' is no number of a master of two-masters.obj (it has 1 and 7)")
 
