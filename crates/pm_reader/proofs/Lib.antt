@@ -11,3 +11,4 @@ pub mod StandsLemmas
 pub mod MeantLemmas
 pub mod Named
 pub mod AheadLemmas
+pub mod ShownLemmas

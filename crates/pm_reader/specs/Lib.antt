@@ -4,3 +4,4 @@ pub mod Meant
 pub mod Way
 pub mod Front
 pub mod Follow
+pub mod Shown
