@@ -28,6 +28,8 @@ use Rattle.pm_state.specs.Sound.{IsSound}
 use Rattle.pm_state.specs.Stages.{after_stage, after_stages, follow_from}
 use Rattle.pm_state.specs.State.{CoreHalf, Fixed, Now, State}
 use Rattle.pm_calls.specs.Events.{boot_at, boot_by, booted, interrupt_at, interrupt_by, raised_at, wait_at, wait_by, waits, woken_at, woken_by, woken_from, woken_in}
+use Rattle.pm_calls.specs.declared.views.Wakeable.{Wakeable}
+use Rattle.pm_calls.specs.calls.RequestWakeup.{woken_to}
 use Rattle.pm_values.specs.Notifications.{is_used}
 use Rattle.pm_step.specs.Step.{stages}
 use Rattle.pm_step.specs.Within.{is_action}
@@ -206,7 +208,7 @@ not_false false is = cc
 pub record TurnsModes (book : State) (steps : List (List Prim)) : Type 0 where
   pub changes : ChangesModes (modes_of book) (modes_of (after_stages steps book)) book.now.core (after_stages steps book).now.core
 
-none_turns : (book : State) → TurnsModes book []
+pub none_turns : (book : State) → TurnsModes book []
 none_turns book = record { changes = record { lines = refl; wanted = λ s clear. refl; used = λ s clear. refl } }
 
 stage_turns : (prims : List Prim) (book : State) → IsSound book → Puts book.now.core (changed prims book).now.core → TurnsModes book (prims ∷ [])
@@ -339,6 +341,16 @@ raises_turn : (kind : Kind) (book : State) → IsSound book → TurnsModes book 
 raises_turn (Slave s) book sound =
     put_turns (flat_map (woken_from s book) book.now.core.rows.entries) book sound (from_put s book book.now.core.rows.entries)
 raises_turn _ book sound = none_turns book
+
+-- ---- a call that wakes
+
+wakeup_puts : (address place : Option ℕ) (target : Option Wakeable) → Each IsPut (woken_to address place target)
+wakeup_puts address (Some p) (Some target) = (put_is target.owner p Active (unwrap_or address target.proc.address), tt)
+wakeup_puts address (Some p) None = tt
+wakeup_puts address None target = tt
+
+pub wakeup_turns : (address place : Option ℕ) (target : Option Wakeable) (book : State) → IsSound book → TurnsModes book (woken_to address place target ∷ [])
+wakeup_turns address place target book sound = put_turns (woken_to address place target) book sound (wakeup_puts address place target)
 
 -- an event that is no message changes modes, and rows of the masters whose mode it changes
 pub event_turns : (event : Event) (book : State) → IsSound book → is_action event ≡ true → TurnsModes book (stages event book)

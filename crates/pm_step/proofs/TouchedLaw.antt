@@ -25,24 +25,25 @@ use Rattle.pm_state.specs.Stages.{after_stage, after_stages, follow, follow_from
 use Rattle.pm_state.specs.State.{CoreHalf, Fixed, State}
 use Rattle.pm_state.specs.Values.{master_place, slave_place}
 use Rattle.pm_calls.specs.RowCalls.{changes_of, row_changes}
-use Rattle.pm_calls.specs.Shapes.{Shape, Other_suspend, Own_abort, Own_arming, Own_notifier, Own_row, Own_suspend, keeps_values, row_node, shaped}
+use Rattle.pm_calls.specs.Shapes.{Shape, Other_suspend, Other_wakeup, Own_abort, Own_arming, Own_notifier, Own_row, Own_suspend, keeps_values, row_node, shaped}
 use Rattle.pm_calls.specs.Verdict.{Called, stages_of}
-use Rattle.pm_calls.specs.Views.{row_view_at}
+use Rattle.pm_calls.specs.declared.views.WakeView.{WakeView}
+use Rattle.pm_calls.specs.Views.{row_view_at, wake_view}
 use Rattle.pm_calls.specs.calls.{called, shape_of}
 use Rattle.pm_calls.specs.calls.SetWakeupSource.{arming}
 use Rattle.pm_calls.proofs.ShapeLaw.{called_shaped}
 use Rattle.pm_tell.specs.declared.served.Served.{Served}
 use Rattle.pm_values.specs.declared.caches.Caches.{Caches}
-use Rattle.pm_values.specs.declared.touches.Touched.TheVariants.{Nothing}
+use Rattle.pm_values.specs.declared.touches.Touched.TheVariants.{Modes, Nothing}
 use Rattle.pm_values.specs.Along.{IsTrail, Trail, modes_of}
 use Rattle.pm_values.specs.Caches.{AreKept}
 use Rattle.pm_values.specs.Starts.{was_down}
 use Rattle.pm_values.specs.Touches.{ChangesModes, ChangesRows, IsOfModes, IsStill, IsTouched, with_core}
 use Rattle.pm_step.specs.Step.{call_at, message_stages, path, served, stages}
-use Rattle.pm_step.specs.Within.{is_action, leaves_values, may_change, touched, touched_at, touched_by, touched_unless}
+use Rattle.pm_step.specs.Within.{is_action, leaves_values, may_change, touched, touched_at, touched_by, touched_unless, turns_modes}
 use Rattle.pm_step.proofs.AwakeLaw.{LeavesValues, none_leaves, same_twice}
 use Rattle.pm_step.proofs.MessageLaw.{of_message}
-use Rattle.pm_step.proofs.ModesLaw.{event_turns}
+use Rattle.pm_step.proofs.ModesLaw.{TurnsModes, event_turns, none_turns, wakeup_turns}
 use Rattle.pm_step.proofs.QuietLaw.{event_leaves}
 use Rattle.pm_step.proofs.Refused.{none_staged}
 use Rattle.pm_step.proofs.StillLaw.{message_stays, shape_leaves}
@@ -198,6 +199,19 @@ place_touched (Some s) book stages modes along caches before leaves =
       downs = λ p within. before.trail.downs p within ∙ own.downs p;
     }
 
+-- stages that turn modes
+turns_touched : (book : State) (steps : List (List Prim)) (modes : List Mode) (along : Trail) (caches : Caches) → TurnsModes book steps → IsBefore book steps modes along caches
+    → IsOfModes modes (after_stages steps book) along caches
+turns_touched book steps modes along caches turns before =
+    let after : State = after_stages steps book in
+    let P : List Mode → Type 0 = λ was. ChangesModes was along.modes book.now.core after.now.core in
+    let Q : List Mode → Type 0 = λ now. ChangesModes (modes_of book) now book.now.core after.now.core in
+    record {
+      before = book.now.core;
+      kept = core_kept book steps modes along caches before;
+      changes = subst P (sym before.was) (subst Q (sym before.now) turns.changes);
+    }
+
 values_touched : (call : Call) (shape : Shape) (place : Option ℕ) (book : State) (modes : List Mode) (along : Trail) (caches : Caches) → shape_of call ≡ shape → keeps_values shape ≡ true → IsBefore book (message_stages (option_and_then (call_at call book) place)) modes along caches
     → IsStill (after_stages (message_stages (option_and_then (call_at call book) place)) book) along caches
 values_touched call shape place book modes along caches is keeps before =
@@ -208,7 +222,7 @@ values_touched call shape place book modes along caches is keeps before =
     subst Q (sym shapes) (shape_leaves m shape book before.sound keeps)))
 
 shape_touched : (call : Call) (shape : Shape) (place : Option ℕ) (book : State) (modes : List Mode) (along : Trail) (caches : Caches) → shape_of call ≡ shape → IsBefore book (message_stages (option_and_then (call_at call book) place)) modes along caches
-    → IsTouched (if keeps_values shape then Nothing else touched_at (option_and_then (λ node. slave_place node book) (row_node shape))) modes (after_stages (message_stages (option_and_then (call_at call book) place)) book) along caches
+    → IsTouched (if keeps_values shape then Nothing else if turns_modes shape then Modes else touched_at (option_and_then (λ node. slave_place node book) (row_node shape))) modes (after_stages (message_stages (option_and_then (call_at call book) place)) book) along caches
 shape_touched call (Own_row node by of) place book modes along caches is before =
     place_touched (slave_place node book) book (message_stages (option_and_then (call_at call book) place)) modes along caches before
     (λ s at. of_message (LeavesOthers s book) (none_leave s book) call book place (λ m.
@@ -229,6 +243,13 @@ shape_touched call (Own_suspend node address) place book modes along caches is b
     values_touched call (Own_suspend node address) place book modes along caches is refl before
 shape_touched call (Own_abort node reason) place book modes along caches is before =
     values_touched call (Own_abort node reason) place book modes along caches is refl before
+shape_touched call (Other_wakeup node address ack) place book modes along caches is before =
+    turns_touched book (message_stages (option_and_then (call_at call book) place)) modes along caches
+    (of_message (TurnsModes book) (none_turns book) call book place (λ m.
+    let Q : Called → Type 0 = λ c. TurnsModes book c.stages in
+    let shapes : called m call book ≡ shaped m (Other_wakeup node address ack) book = called_shaped m call book ∙ ap (λ shape. shaped m shape book) is in
+    let view : WakeView = wake_view m node book in
+    subst Q (sym shapes) (wakeup_turns address view.place view.target book before.sound))) before
 shape_touched call _ place book modes along caches is before = tt
 
 -- ---- an event that is no message
@@ -236,15 +257,7 @@ shape_touched call _ place book modes along caches is before = tt
 modes_touched : (event : Event) (book : State) (modes : List Mode) (along : Trail) (caches : Caches) → is_action event ≡ true → IsBefore book (stages event book) modes along caches
     → IsOfModes modes (after_stages (stages event book) book) along caches
 modes_touched event book modes along caches is before =
-    let after : State = after_stages (stages event book) book in
-    let turns = event_turns event book before.sound is in
-    let P : List Mode → Type 0 = λ was. ChangesModes was along.modes book.now.core after.now.core in
-    let Q : List Mode → Type 0 = λ now. ChangesModes (modes_of book) now book.now.core after.now.core in
-    record {
-      before = book.now.core;
-      kept = core_kept book (stages event book) modes along caches before;
-      changes = subst P (sym before.was) (subst Q (sym before.now) turns.changes);
-    }
+    turns_touched book (stages event book) modes along caches (event_turns event book before.sound is) before
 
 -- ---- a step
 

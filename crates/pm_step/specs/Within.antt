@@ -14,7 +14,7 @@ use Rattle.pm_topology.specs.Places.{kind_of}
 use Rattle.pm_tell.specs.declared.served.Served.{Served}
 use Rattle.pm_values.specs.declared.touches.Touched.{Touched}
 use Rattle.pm_values.specs.declared.touches.Touched.TheVariants.{All, Modes, Nothing, Rows}
-use Rattle.pm_calls.specs.Shapes.{keeps_values, row_node}
+use Rattle.pm_calls.specs.Shapes.{Shape, Other_wakeup, keeps_values, row_node}
 use Rattle.pm_calls.specs.calls.{is_once, only_reads, shape_of}
 use Rattle.pm_state.specs.State.{State}
 use Rattle.pm_state.specs.Values.{slave_place}
@@ -57,6 +57,11 @@ abbrev pub may_move : Event → Option Served → Bool
 may_move event None = is_action event
 may_move event (Some served) = not (keeps_procs served.call)
 
+-- a call of this shape changes the mode of one processor, and the rows of the masters alone whose mode turns with it
+abbrev pub turns_modes : Shape → Bool
+turns_modes (Other_wakeup node address ack) = true
+turns_modes _ = false
+
 -- what is touched where the rows on the slave at this place change, and nothing else, if there is a place
 abbrev pub touched_at : Option ℕ → Touched
 touched_at None = All
@@ -67,7 +72,10 @@ row_place call book = option_and_then (λ node. slave_place node book) (row_node
 
 -- what a call touches that may have stages
 abbrev pub touched_in : Call → State → Touched
-touched_in call book = if keeps_values (shape_of call) then Nothing else touched_at (row_place call book)
+touched_in call book =
+    if keeps_values (shape_of call) then Nothing
+    else if turns_modes (shape_of call) then Modes
+    else touched_at (row_place call book)
 
 abbrev pub touched_by : Option Served → State → Touched
 touched_by None book = Modes

@@ -2,11 +2,11 @@
 
 ghost use Rattle.std.specs.Prelude.{◌≡◌, false, is_some, length, true};
 ghost use Rattle.pm_topology.specs.Places.{kind_of};
-ghost use Rattle.pm_calls.specs.calls.{is_once};
+ghost use Rattle.pm_calls.specs.calls.{is_once, shape_of};
 ghost use Rattle.pm_values.specs.Caches.{AreKept};
 ghost use Rattle.pm_state.specs.Stages.{after_stages, path_from};
 ghost use Rattle.pm_step.specs.Step.{call_in, configures, may_call, is_ipi, message_stages, path, served, stages, time_of, verdict as verdict_on};
-ghost use Rattle.pm_step.specs.Within.{is_action, is_proc_in, keeps_procs, leaves_values, may_change, may_move, is_idle, is_once_in, is_quiet, rests, row_place, touched, touched_at, touched_in, touched_unless};
+ghost use Rattle.pm_step.specs.Within.{is_action, is_proc_in, keeps_procs, leaves_values, may_change, may_move, is_idle, is_once_in, is_quiet, rests, row_place, touched, touched_at, touched_in, touched_unless, turns_modes};
 ghost use Rattle.pm_step.specs.Fresh.{IsFresh};
 ghost use Rattle.pm_tell.specs.Telling.{HasPlaces};
 ghost use Rattle.pm_values.specs.Along.{Completes, IsTrail, modes_of, trail_from};
@@ -337,7 +337,17 @@ fn touched_in(tables: &Tables, call: &Call) -> Touched
     if keeps_values(call) {
         return Touched::Nothing;
     }
+    if turns_modes(call) {
+        return Touched::Modes;
+    }
     touched_at(row_place(tables, call))
+}
+
+/// Whether a call changes the mode of one processor, and the rows of the masters alone whose mode turns with it.
+fn turns_modes(call: &Call) -> bool
+    ensures { result ≡ turns_modes (shape_of call.now) }
+{
+    matches!(call, Call::RequestWakeup { .. })
 }
 
 fn touched_at(place: Option<usize>) -> Touched
