@@ -1,6 +1,8 @@
 -- Readings of names one after another, and how one goes on.
-use Rattle.std.proofs.Common.{◌≡◌, ◌<◌, ◌≤◌, ◌+◌, ◌-◌, ℕ, zero, suc, List, [], ◌∷◌, ◌++◌, length, map, refl, sym, ◌∙◌, ap, arith, subst, Bool, true, false, Some, None, append_assoc}
-use Rattle.pm_io.specs.Calls.{Call, Begin, Read, GoesOn, Named, ReadsEach, ReadsOn, ReadsOut, ReadsToFault, ReadsWhole, begun, mended}
+use Rattle.std.proofs.Common.{◌≡◌, ◌≢◌, ◌⊎◌, ◌==◌, ◌||◌, nat_lt, inl, inr, ◌<◌, ◌≤◌, ◌+◌, ◌-◌, ℕ, zero, suc, List, [], ◌∷◌, ◌++◌, length, map, refl, sym, ◌∙◌, ap, arith, subst, Bool, true, false, Some, None, append_assoc}
+use Rattle.std.proofs.lemmas.Bool.{false≢true}
+use Rattle.std.proofs.lemmas.Bool.Decides.{Decides-eqb, nat_tests}
+use Rattle.pm_io.specs.Calls.{AnsweredBelow, Call, Begin, Read, GoesOn, Named, ReadsEach, ReadsOn, ReadsOut, ReadsToFault, ReadsWhole, begun, is_answered, mended}
 
 pub each_append : (first second : List Named) (one two : List Call) → ReadsEach first one → ReadsEach second two → ReadsEach (first ++ second) (one ++ two)
 each_append [] second one two a b = subst (λ (calls : List Call). ReadsEach second (calls ++ two)) (sym a) b
@@ -57,3 +59,52 @@ can_end id (suc left) false = (Read id (Some []) ∷ [], (refl, omega arith, ref
 
 pub took_none : (id left : ℕ) (calls : List Call) → 0 < left → GoesOn id left true calls → GoesOn id left false (Read id (Some []) ∷ calls)
 took_none id left calls some over = (refl, some, over)
+
+-- ---- numbers that were answered
+
+or_regrouped : (a b c : Bool) → (a || (b || c)) ≡ ((a || b) || c)
+or_regrouped true b c = refl
+or_regrouped false b c = refl
+
+pub answered_append : (id : ℕ) (one two : List Call) → is_answered id (one ++ two) ≡ (is_answered id one || is_answered id two)
+answered_append id [] two = refl
+answered_append id (Begin name None ∷ one) two = answered_append id one two
+answered_append id (Begin name (Some number) ∷ one) two =
+    ap (λ (b : Bool). (number == id) || b) (answered_append id one two) ∙ or_regrouped (number == id) (is_answered id one) (is_answered id two)
+answered_append id (Read other answer ∷ one) two = answered_append id one two
+
+-- what was answered stays so
+pub answered_still : (id : ℕ) (one two : List Call) → is_answered id one ≡ true → is_answered id (one ++ two) ≡ true
+answered_still id one two was = answered_append id one two ∙ ap (λ (b : Bool). b || is_answered id two) was
+
+pub answered_last : (id : ℕ) (name : List ℕ) (calls : List Call) → is_answered id (calls ++ Begin name (Some id) ∷ []) ≡ true
+answered_last id name calls =
+    answered_append id calls (Begin name (Some id) ∷ []) ∙ ap (λ (b : Bool). is_answered id calls || (b || false)) ((Decides-eqb id id).1 refl) ∙ either (is_answered id calls)
+  where
+    either : (b : Bool) → (b || true) ≡ true
+    either true = refl
+    either false = refl
+
+pub below_still : (count : ℕ) (calls : List Call) (call : Call) → AnsweredBelow count calls → AnsweredBelow count (calls ++ call ∷ [])
+below_still count calls call below = λ id within. answered_still id calls (call ∷ []) (below id within)
+
+pub below_next : (count : ℕ) (name : List ℕ) (calls : List Call) → AnsweredBelow count calls → AnsweredBelow (count + 1) (calls ++ Begin name (Some count) ∷ [])
+below_next count name calls below = λ id within. by id within (same_or_other id)
+  where
+    same_or_other : (id : ℕ) → (id ≡ count) ⊎ (id ≢ count)
+    same_or_other id = split (id == count) refl
+      where
+        split : (b : Bool) → (id == count) ≡ b → (id ≡ count) ⊎ (id ≢ count)
+        split true is = inl ((Decides-eqb id count).0 is)
+        split false is = inr (λ same. false≢true (sym is ∙ (Decides-eqb id count).1 same))
+
+    by : (id : ℕ) → id < count + 1 → (id ≡ count) ⊎ (id ≢ count) → is_answered id (calls ++ Begin name (Some count) ∷ []) ≡ true
+    by id within (inl same) = subst (λ (n : ℕ). is_answered n (calls ++ Begin name (Some count) ∷ []) ≡ true) (sym same) (answered_last count name calls)
+    by id within (inr other) = answered_still id calls (Begin name (Some count) ∷ []) (below id (omega (arith, within, other)))
+
+pub unanswered_past : (count id : ℕ) (calls : List Call) → AnsweredBelow count calls → is_answered id calls ≡ false → count ≤ id
+unanswered_past count id calls below un = split (nat_lt id count) refl
+  where
+    split : (b : Bool) → nat_lt id count ≡ b → count ≤ id
+    split true is = absurd (false≢true (sym un ∙ below id (grind (arith, nat_tests))))
+    split false is = grind (arith, nat_tests)

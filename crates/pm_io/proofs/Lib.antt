@@ -3,6 +3,7 @@ pub mod GivenLemmas
 pub mod LinesLemmas
 pub mod LogSteps
 pub mod NumbersLemmas
+pub mod OneInputLemmas
 pub mod PrefixEnds
 pub mod PrefixLemmas
 pub mod MemInputsLemmas

@@ -1,5 +1,5 @@
 -- The calls of a source of inputs, in their order, and which readings of names they are.
-use Rattle.std.specs.Prelude.{◌≡◌, ℕ, ◌+◌, ◌-◌, ◌<◌, ◌≤◌, List, [], ◌∷◌, ◌++◌, length, Bool, true, false, Option, Some, None, ⊤}
+use Rattle.std.specs.Prelude.{◌≡◌, ◌==◌, ◌||◌, ℕ, ◌+◌, ◌-◌, ◌<◌, ◌≤◌, List, [], ◌∷◌, ◌++◌, length, Bool, true, false, Option, Some, None, ⊤}
 
 -- a name was begun under a number, or could not be; bytes were read under a number, none at the end, or the read failed
 pub data Call : Type 0 where
@@ -67,6 +67,17 @@ begun [] = []
 begun (Begin name None ∷ calls) = begun calls
 begun (Begin name (Some id) ∷ calls) = name ∷ begun calls
 begun (Read id answer ∷ calls) = begun calls
+
+-- whether a number was answered when a name was begun
+abbrev pub is_answered : ℕ → List Call → Bool
+is_answered id [] = false
+is_answered id (Begin name None ∷ calls) = is_answered id calls
+is_answered id (Begin name (Some number) ∷ calls) = (number == id) || is_answered id calls
+is_answered id (Read other answer ∷ calls) = is_answered id calls
+
+-- each number below this one was answered
+abbrev pub AnsweredBelow : ℕ → List Call → Type 0
+AnsweredBelow count calls = (id : ℕ) → id < count → is_answered id calls ≡ true
 
 -- ---- the same seen from within: how a reading that came so far can go on
 

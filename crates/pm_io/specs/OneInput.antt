@@ -1,6 +1,6 @@
 -- One input in memory, which stands under every name.
-use Rattle.std.specs.Prelude.{ℕ, ◌==◌, if◌then◌else◌, List, Option, Some, None}
-use Rattle.pm_io.specs.Calls.{Call}
+use Rattle.std.specs.Prelude.{◌≡◌, ℕ, ◌==◌, if◌then◌else◌, true, List, Option, Some, None, IfSome}
+use Rattle.pm_io.specs.Calls.{Call, is_answered}
 use Rattle.pm_io.specs.Inputs.{File, Input, Moment, nothing}
 
 -- its bytes, the place of the next one that is read, where it was begun, and the calls
@@ -8,6 +8,10 @@ pub record OneContent : Type 0 where
   pub bytes : List ℕ
   pub place : Option ℕ
   pub calls : List Call
+
+-- if it stands at a place, it was begun under the number 0
+abbrev pub WasBegun : Option ℕ → List Call → Type 0
+WasBegun place calls = IfSome place (λ _. is_answered 0 calls ≡ true)
 
 -- how many inputs it tells that can still be begun
 abbrev pub always_room : ℕ

@@ -1,7 +1,7 @@
 //! Where named inputs are read from.
 
-ghost use Rattle.std.specs.Prelude.{◌≡◌, ◌<◌, ◌≤◌, ◌↔◌, [], length, take, Some, None, IsErr, IfOk, MatchResult};
-ghost use Rattle.pm_io.specs.Calls.{Begin, Read};
+ghost use Rattle.std.specs.Prelude.{◌≡◌, false, ◌<◌, ◌≤◌, ◌↔◌, [], length, take, Some, None, IsErr, IfOk, MatchResult};
+ghost use Rattle.pm_io.specs.Calls.{Begin, Read, is_answered};
 ghost use Rattle.pm_base.specs.Faults.{HasCause};
 ghost use Rattle.pm_io.specs.Inputs.{rest, Adds, IsStuck, Moment, Took, Began, Stayed, CannotBegin};
 
@@ -19,8 +19,7 @@ pub trait Inputs {
     ghost state: { Self → Moment };
 
     /// Begins the named input, and answers the number under which it is read from its front. What
-    /// is left under other numbers stays. A number that no `begin` answered has nothing left: an
-    /// implementation says so of itself when it is made.
+    /// is left under other numbers stays.
     ///
     /// `Failed` comes only where the count of faults rose. Where the inputs are observable, it
     /// comes exactly where the name isn't there or no more inputs can be begun.
@@ -36,7 +35,7 @@ pub trait Inputs {
 
     /// Takes the next bytes of the input `id` into the front of `buf`, and answers how many. They
     /// don't go past the name's least failing byte. For a `buf` that isn't empty, 0 is the end of
-    /// the input.
+    /// the input. A number that no `begin` answered has nothing left, and gives nothing.
     ///
     /// `Failed` comes only where the count of faults rose, and takes nothing. Where the
     /// inputs are observable, it comes exactly where the input stands at its name's least failing byte.
@@ -51,5 +50,8 @@ pub trait Inputs {
         ensures failed { observable → IsErr result ↔ IsStuck ((state self.old).input id) }
         ensures logged { MatchResult result
             (λ count. Adds (Read id (Some (take count buf.new))) (state self.old) (state self.new))
-            (λ _. Adds (Read id None) (state self.old) (state self.new)) };
+            (λ _. Adds (Read id None) (state self.old) (state self.new)) }
+        ensures unbegun { is_answered id (state self.old).calls ≡ false → IfOk result (λ count. count ≡ 0) }
+        ensures left { observable → is_answered id (state self.old).calls ≡ false
+            → rest ((state self.old).input id) ≡ [] };
 }

@@ -1,7 +1,8 @@
 //! Inputs in memory.
 
-ghost use Rattle.std.specs.Prelude.{ℕ, ◌≡◌, ◌<◌, ◌≤◌, ◌↔◌, ◌⊎◌, ◌++◌, ◌∷◌, [], ⊤, min, length, take, None, Some, Ok, IsErr, IfOk, OnOk, OnErr, IsTrue, IsSome, is_ok, if◌then◌else◌, IsNone, IfSome, MatchOption, MatchResult, position, slice_get, ◌+◌, ◌^◌};
-ghost use Rattle.pm_io.specs.Calls.{Begin, Read};
+ghost use Rattle.std.specs.Prelude.{ℕ, ◌≡◌, false, ◌<◌, ◌≤◌, ◌↔◌, ◌⊎◌, ◌++◌, ◌∷◌, [], ⊤, min, length, take, None, Some, Ok, IsErr, IfOk, OnOk, OnErr, IsTrue, IsSome, is_ok, if◌then◌else◌, IsNone, IfSome, MatchOption, MatchResult, position, slice_get, unwrap_or, ◌+◌, ◌^◌};
+ghost use Rattle.pm_io.specs.Calls.{Begin, Read, is_answered};
+ghost use Rattle.pm_io.specs.Logged.{call_of};
 ghost use Rattle.pm_base.specs.Faults.{HasCause, raised};
 ghost use Rattle.pm_io.specs.Inputs.{rest, Adds, IsStuck, Advances, Took, Began, Stayed, CannotBegin};
 ghost use Rattle.pm_io.specs.MemInputs.{most_begun, is_named, FoundFile, file_of, least_with, least_failing, reach_of, input_in, input_of, moment_of};
@@ -38,7 +39,8 @@ pub struct MemInputs {
 }
 
 impl Model for MemInputs {
-    ghost use Rattle.std.specs.Prelude.{◌≤◌, vec_capacity};
+    ghost use Rattle.std.specs.Prelude.{◌≤◌, length, vec_capacity};
+    ghost use Rattle.pm_io.specs.Calls.{AnsweredBelow};
     ghost use Rattle.pm_io.specs.MemInputs.{StoredInputs, most_begun};
 
     ghost Value = { StoredInputs };
@@ -51,7 +53,10 @@ impl Model for MemInputs {
       calls = inputs.log.calls;
     } };
 
-    ghost invariant = { λ inputs. most_begun ≤ vec_capacity inputs.begun };
+    ghost invariant = { λ inputs. record {
+      room : most_begun ≤ vec_capacity inputs.begun;
+      answered : AnsweredBelow (length inputs.begun.items) inputs.log.calls;
+    } };
 }
 
 impl MemInputs {
@@ -102,6 +107,64 @@ impl MemInputs {
         let file = StoredFile::new(self.alloc, name, content, fails_at)?;
         self.files.push(file).map_err(|_| NoMemory)
     }
+
+    /// Begins the file at a place under the next number.
+    #[tactic(auto, using(crate::proofs::CallsLemmas::below_next))]
+    fn start(&mut self, file: usize, name: &str) -> u32
+        requires { length self.old.begun < most_begun }
+        ensures number { result ≡ length self.old.begun }
+        ensures begun { self.new ≡ record self.old {
+          begun = self.old.begun ++ record { file = file; place = 0 } ∷ [];
+          calls = self.old.calls ++ Begin name.now (Some result) ∷ [];
+        } }
+    {
+        let id = self.begun.len();
+        self.begun.push(Reading { file, place: 0 }).unwrap();
+        self.log = self.log.then(&Entry::Begun(name, id as u32));
+        id as u32
+    }
+
+    /// Takes the next bytes under a number, as `read` does, but neither logs nor counts it. A number past the last one
+    /// has nothing left.
+    #[tactic(auto, using(crate::proofs::CallsLemmas::unanswered_past))]
+    fn take_next(&mut self, id: u32, buf: &mut [u8]) -> Option<usize>
+        ensures bound { IfSome result (λ count. count ≤ length buf.new) }
+        ensures taken { Took ⊤ id (take (unwrap_or result 0) buf.new) (moment_of self.old) (moment_of self.new) }
+        ensures end { IfSome result (λ count.
+            0 < length buf.new → count ≡ 0 ↔ (rest ((moment_of self.old).input id) ≡ [])) }
+        ensures failed { IsNone result ↔ IsStuck ((moment_of self.old).input id) }
+        ensures count { let input = (moment_of self.old).input id in
+            IfSome result (λ count. count ≡ min (length buf.new) (reach_of input.file input.place)) }
+        ensures unbegun { is_answered id self.old.calls ≡ false → length self.old.begun ≤ id }
+        ensures past { length self.old.begun ≤ id → result ≡ Some 0 }
+        ensures left { length self.old.begun ≤ id → rest ((moment_of self.old).input id) ≡ [] }
+        ensures room { length self.new.begun ≡ length self.old.begun }
+        ensures kept { self.new ≡ record self.old { begun = self.new.begun } }
+    {
+        let Some(reading) = reading_of(&self.begun, id) else {
+            return Some(0);
+        };
+        let count = read_in(&self.files, reading, buf)?;
+        self.begun[id as usize] = Reading {
+            place: reading.place + count,
+            ..reading
+        };
+        Some(count)
+    }
+
+    /// A call that failed is counted and logged.
+    #[tactic(auto, using(crate::proofs::CallsLemmas::below_still))]
+    fn fail(&mut self, call: &Entry<'_>) -> Failed
+        ensures later { self.old.faults ≤ self.new.faults }
+        ensures failed { self.new ≡ record self.old {
+          faults = raised self.old.faults;
+          calls = self.old.calls ++ call_of call.now ∷ [];
+        } }
+    {
+        self.faults = self.faults.saturating_add(1);
+        self.log = self.log.then(call);
+        Failed
+    }
 }
 
 impl Inputs for MemInputs {
@@ -129,21 +192,13 @@ impl Inputs for MemInputs {
             ≡ record self.old { begun = self.new.begun; faults = self.new.faults; calls = self.new.calls } }
     {
         match place_of(&self.files, name) {
-            Some(file) if self.begun.len() < MOST_BEGUN => {
-                let id = self.begun.len();
-                self.begun.push(Reading { file, place: 0 }).unwrap();
-                self.log = self.log.then(&Entry::Begun(name, id as u32));
-                Ok(id as u32)
-            }
-            _ => {
-                self.faults = self.faults.saturating_add(1);
-                self.log = self.log.then(&Entry::Unbegun(name));
-                Err(Failed)
-            }
+            Some(file) if self.begun.len() < MOST_BEGUN => Ok(self.start(file, name)),
+            _ => Err(self.fail(&Entry::Unbegun(name))),
         }
     }
 
-    /// A number that `begin` didn't answer has nothing left: its reads take 0.
+    /// No read under a number that `begin` didn't answer fails: it takes 0.
+    #[tactic(auto, using(crate::proofs::CallsLemmas::below_still))]
     fn read(&mut self, id: u32, buf: &mut [u8]) -> Result<usize, Failed>
         ensures bound { IfOk result (λ count. count ≤ length buf.new) }
         ensures cause { HasCause self.old.faults self.new.faults result }
@@ -156,9 +211,11 @@ impl Inputs for MemInputs {
         ensures logged { MatchResult result
             (λ count. Adds (Read id (Some (take count buf.new))) (moment_of self.old) (moment_of self.new))
             (λ _. Adds (Read id None) (moment_of self.old) (moment_of self.new)) }
+        ensures unbegun { is_answered id self.old.calls ≡ false → result ≡ Ok 0 }
+        ensures left { is_answered id self.old.calls ≡ false → rest ((moment_of self.old).input id) ≡ [] }
 
         // Exactly how much it takes, and the count: each failure raises it, and nothing else does.
-        ensures unbegun { length self.old.begun ≤ id → result ≡ Ok 0 }
+        ensures past { length self.old.begun ≤ id → result ≡ Ok 0 }
         ensures count { let input = (moment_of self.old).input id in
             IfOk result (λ count. count ≡ min (length buf.new) (reach_of input.file input.place)) }
         ensures faults { self.new.faults ≡ (if is_ok result then self.old.faults else raised self.old.faults) }
@@ -166,24 +223,12 @@ impl Inputs for MemInputs {
         ensures kept { self.new
             ≡ record self.old { begun = self.new.begun; faults = self.new.faults; calls = self.new.calls } }
     {
-        let Some(reading) = reading_of(&self.begun, id) else {
-            self.log = self.log.then(&Entry::Took(id, &[]));
-            return Ok(0);
-        };
-        match read_in(&self.files, reading, buf) {
+        match self.take_next(id, buf) {
             Some(count) => {
-                self.begun[id as usize] = Reading {
-                    place: reading.place + count,
-                    ..reading
-                };
                 self.log = self.log.then(&Entry::Took(id, &buf[..count]));
                 Ok(count)
             }
-            None => {
-                self.faults = self.faults.saturating_add(1);
-                self.log = self.log.then(&Entry::Stuck(id));
-                Err(Failed)
-            }
+            None => Err(self.fail(&Entry::Stuck(id))),
         }
     }
 }

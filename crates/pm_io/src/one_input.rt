@@ -1,7 +1,7 @@
 //! One input in memory, which stands under every name.
 
-ghost use Rattle.std.specs.Prelude.{ℕ, ◌≡◌, ◌+◌, ◌<◌, ◌≤◌, ◌^◌, ◌↔◌, ⊤, [], drop, length, min, take, None, Some, Ok, IsErr, IfOk, MatchResult};
-ghost use Rattle.pm_io.specs.Calls.{Begin, Read};
+ghost use Rattle.std.specs.Prelude.{ℕ, ◌≡◌, false, ◌+◌, ◌<◌, ◌≤◌, ◌^◌, ◌↔◌, ⊤, [], drop, length, min, take, None, Some, Ok, IsErr, IfOk, MatchResult};
+ghost use Rattle.pm_io.specs.Calls.{Begin, Read, is_answered};
 ghost use Rattle.pm_base.specs.Faults.{HasCause};
 ghost use Rattle.pm_io.specs.Inputs.{Adds, Began, CannotBegin, IsStuck, Stayed, Took, rest};
 ghost use Rattle.pm_io.specs.OneInput.{moment_of, place_under};
@@ -23,11 +23,13 @@ pub struct OneInput {
 }
 
 impl Model for OneInput {
-    ghost use Rattle.pm_io.specs.OneInput.{OneContent};
+    ghost use Rattle.pm_io.specs.OneInput.{WasBegun, OneContent};
 
     ghost Value = { OneContent };
 
     ghost view = { λ input. record { bytes = input.content.items; place = input.place; calls = input.log.calls } };
+
+    ghost invariant = { λ input. WasBegun input.place input.log.calls };
 }
 
 impl OneInput {
@@ -51,6 +53,20 @@ impl OneInput {
             log: CallLog::new(),
         }
     }
+
+    /// Takes the next bytes under a number, as `read` does, but doesn't log it.
+    fn take_next(&mut self, id: u32, buf: &mut [u8]) -> usize
+        ensures count { result ≡ min (length buf.new) (length (rest ((moment_of self.old).input id))) }
+        ensures taken { Took ⊤ id (take result buf.new) (moment_of self.old) (moment_of self.new) }
+        ensures kept { self.new ≡ record self.old { place = self.new.place } }
+    {
+        let Some(place) = place_under(id, self.place) else {
+            return 0;
+        };
+        let count = copy_from(self.content.as_slice(), place, buf);
+        self.place = Some(place + count);
+        count
+    }
 }
 
 impl Inputs for OneInput {
@@ -59,6 +75,7 @@ impl Inputs for OneInput {
     ghost state = { moment_of };
 
     /// The number is always 0, and the input stands at its front again.
+    #[tactic(auto, using(crate::proofs::CallsLemmas::answered_last))]
     fn begin(&mut self, name: &str) -> Result<u32, Failed>
         ensures cause { HasCause (moment_of self.old).faults (moment_of self.new).faults result }
         ensures begun { MatchResult result
@@ -79,6 +96,7 @@ impl Inputs for OneInput {
     }
 
     /// Takes as many bytes as are left and fit, under the number 0 once it was begun, and else none.
+    #[tactic(auto, using(crate::proofs::OneInputLemmas::begun_still, crate::proofs::OneInputLemmas::unbegun_place))]
     fn read(&mut self, id: u32, buf: &mut [u8]) -> Result<usize, Failed>
         ensures bound { IfOk result (λ count. count ≤ length buf.new) }
         ensures cause { HasCause (moment_of self.old).faults (moment_of self.new).faults result }
@@ -91,17 +109,14 @@ impl Inputs for OneInput {
         ensures logged { MatchResult result
             (λ count. Adds (Read id (Some (take count buf.new))) (moment_of self.old) (moment_of self.new))
             (λ _. Adds (Read id None) (moment_of self.old) (moment_of self.new)) }
+        ensures unbegun { is_answered id self.old.calls ≡ false → result ≡ Ok 0 }
+        ensures left { is_answered id self.old.calls ≡ false → rest ((moment_of self.old).input id) ≡ [] }
 
         // Exactly how much it takes, and what stays.
         ensures count { result ≡ Ok (min (length buf.new) (length (rest ((moment_of self.old).input id)))) }
         ensures bytes { self.new.bytes ≡ self.old.bytes }
     {
-        let Some(place) = place_under(id, self.place) else {
-            self.log = self.log.then(&Entry::Took(id, &[]));
-            return Ok(0);
-        };
-        let count = copy_from(self.content.as_slice(), place, buf);
-        self.place = Some(place + count);
+        let count = self.take_next(id, buf);
         self.log = self.log.then(&Entry::Took(id, &buf[..count]));
         Ok(count)
     }

@@ -11,7 +11,7 @@ use pm_base::Failed;
 /// The counts of faults and of stalls are `u64`s that never fall and stand still at their last
 /// value.
 pub trait Sink {
-    /// Whether contracts see the bytes that the sink took. They see nothing of the host's output.
+    /// Whether contracts see the bytes that the sink took.
     ghost observable: { Type 0 } = { ⊥ };
 
     /// The bytes so far, how many writes have failed, and how many took 0 of a piece that isn't
