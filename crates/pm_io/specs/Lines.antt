@@ -1,6 +1,6 @@
 -- The lines of a text and the bytes of a line: the same for every text of the project and for its scripts.
 use Rattle.std.specs.Prelude.{ℕ, ◌-◌, Bool, ◌&&◌, ◌||◌, List, [], ◌∷◌, length, take, ◌==◌, nat_lt, nat_le, if◌then◌else◌, slice_index}
-use Rattle.std.specs.List.{slice_split}
+use Rattle.std.specs.List.{list_all, slice_split}
 use Rattle.pm_io.specs.declared.lines.Ending.{Ending}
 use Rattle.pm_io.specs.declared.lines.Ending.TheVariants.{Whole, Cut}
 
@@ -38,3 +38,7 @@ without_return line = if slice_index line (length line - 1) == 13 then take (len
 -- a byte that may stand in a line: a tab or a printable one
 abbrev pub is_plain : ℕ → Bool
 is_plain byte = (byte == 9) || (nat_le 32 byte && nat_le byte 126)
+
+-- a line has less than 256 bytes without its line feed, and is plain, its comment too
+abbrev pub is_readable : List ℕ → Bool
+is_readable line = nat_lt (length line) 256 && list_all is_plain (without_return line)

@@ -1,7 +1,8 @@
 -- The number that a word stands for: the same for every text of the project and for the words of a command line.
-use Rattle.std.specs.Prelude.{ℕ, ◌==◌, ◌&&◌, nat_lt, nat_le, if◌then◌else◌, List, Option, Some, None, length, drop, slice_index}
+use Rattle.std.specs.Prelude.{ℕ, ◌==◌, ◌&&◌, nat_lt, nat_le, if◌then◌else◌, List, [], ◌∷◌, Option, Some, None, length, drop, option_and_then, slice_index}
 use Rattle.std.specs.Char.{is_digit}
 use Rattle.std.specs.List.{list_all}
+use Rattle.std.specs.Option.{option_map}
 use Rattle.std.specs.Str.Parse.{digits_value}
 
 -- the value of one digit or more in this base. Letters of either case are the digits from 10 on
@@ -19,3 +20,9 @@ number_of word =
 abbrev pub at_most : ℕ → Option ℕ → Option ℕ
 at_most greatest None = None
 at_most greatest (Some value) = if nat_le value greatest then Some value else None
+
+-- all of these words as numbers that are at most the greatest one
+abbrev pub numbers_in : ℕ → List (List ℕ) → Option (List ℕ)
+numbers_in greatest [] = Some []
+numbers_in greatest (word ∷ words) =
+    option_and_then (λ n. option_map (λ (ns : List ℕ). n ∷ ns) (numbers_in greatest words)) (at_most greatest (number_of word))

@@ -17,7 +17,7 @@ pub mod writing;
 
 pub use calls::{CallLog, Entry};
 pub use inputs::Inputs;
-pub use lines::{Ending, TOO_LONG, is_plain, split_line, without_return};
+pub use lines::{Ending, TOO_LONG, is_plain, is_readable, split_line, without_return};
 pub use mem_inputs::MemInputs;
 pub use mem_sink::MemSink;
 pub use numbers::number;

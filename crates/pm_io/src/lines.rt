@@ -3,7 +3,7 @@
 
 ghost use Rattle.std.specs.Prelude.{◌≡◌, ◌==◌, ◌&&◌, ◌∷◌, [], ◌<◌, nat_le, length, position, MatchOption, IfSome};
 ghost use Rattle.std.specs.List.{list_all};
-ghost use Rattle.pm_io.specs.Lines.{lines, least_length, without_return, is_plain};
+ghost use Rattle.pm_io.specs.Lines.{lines, least_length, without_return, is_plain, is_readable};
 
 /// The number of bytes from which on a line is too long, its line feed not counted.
 pub const TOO_LONG: usize = 256;
@@ -65,6 +65,13 @@ pub fn is_plain(text: &[u8]) -> bool
     ensures { result ≡ list_all is_plain text.now }
 {
     is_printable(text) || text.iter().all(|byte| matches!(byte, b'\t' | b' '..=b'~'))
+}
+
+/// Whether a line is short enough and plain, so that its words can be read.
+pub fn is_readable(line: &[u8]) -> bool
+    ensures { result ≡ is_readable line.now }
+{
+    line.len() < TOO_LONG && is_plain(without_return(line))
 }
 
 /// Whether all bytes are printable ASCII.

@@ -8,11 +8,11 @@ use Rattle.std.proofs.lemmas.List.{length-map}
 use Rattle.std.proofs.lemmas.Fmt.{decimal_is_IsNumeral, length-decimal-le}
 use Rattle.std.proofs.Math.Bool.{and-false}
 use Rattle.std.proofs.Math.Seq.{drop-append_seam, take-append_seam}
-use Rattle.pm_io.specs.Lines.{without_return, is_plain}
+use Rattle.pm_io.specs.Lines.{without_return, is_plain, is_readable}
 use Rattle.pm_io.specs.Words.{is_blank, words_from, words, word_texts, text_between}
-use Rattle.pm_io.specs.Numbers.{number_of}
+use Rattle.pm_io.specs.Numbers.{number_of, numbers_in}
 use Rattle.pm_base.proofs.Elements.{AllByRecursion-append}
-use Rattle.pm_objtext.specs.Reading.{is_readable, number, numbers_in, numbers}
+use Rattle.pm_objtext.specs.Reading.{greatest_number, number, numbers}
 
 -- ---- bytes
 
@@ -167,7 +167,7 @@ number-decimal n small =
     let fits : leb n 4294967295 ≡ true = grind (arith, nat_tests) in
     rw (number_of-digits (decimal n) numeral.0, numeral.1, fits) refl
 
-pub numbers_in-decimals : (ns : List ℕ) → AllByRecursion (λ n. n < 2 ^ 32) ns → numbers_in (map decimal ns) ≡ Some ns
+pub numbers_in-decimals : (ns : List ℕ) → AllByRecursion (λ n. n < 2 ^ 32) ns → numbers_in greatest_number (map decimal ns) ≡ Some ns
 numbers_in-decimals [] small = refl
 numbers_in-decimals (n ∷ ns) small = rw (number-decimal n small.0, numbers_in-decimals ns small.1) refl
 

@@ -6,12 +6,13 @@ use Rattle.pm_object.specs.declared.object.Pair.{Pair}
 use Rattle.pm_object.specs.declared.object.Section.{Section}
 use Rattle.pm_object.specs.Grammar.{pair_words}
 use Rattle.pm_io.specs.Words.{word_texts}
-use Rattle.pm_io.specs.Numbers.{number_of, at_most}
+use Rattle.pm_io.specs.Numbers.{number_of, at_most, numbers_in}
 use Rattle.pm_objtext.specs.declared.names.Keyword.{Keyword}
 use Rattle.pm_objtext.specs.declared.names.Keyword.TheVariants as keywords
 use Rattle.pm_objtext.specs.declared.item.Item.{Item}
 use Rattle.pm_objtext.specs.declared.item.Item.TheVariants.{Empty, Header, Opens, Power, Reset, Shutdown}
-use Rattle.pm_objtext.specs.Reading.{is_readable, number, with_first, numbers_in, numbers, keyword_of, section_of, opening, pair_of, record_of, keyword_item, words_item, item_of}
+use Rattle.pm_io.specs.Lines.{is_readable}
+use Rattle.pm_objtext.specs.Reading.{greatest_number, number, numbers, keyword_of, section_of, opening, pair_of, record_of, keyword_item, words_item, item_of}
 use Rattle.pm_objtext.proofs.ItemTexts.{AreSmall, Fits}
 use Rattle.pm_objtext.proofs.Walks.{found_some, mapped_some}
 
@@ -27,15 +28,15 @@ at_most_small (Some value) n is =
     let same = both.1 in
     grind (arith, nat_tests)
 
-first_small : (o : Option (List ℕ)) (n : ℕ) (ns : List ℕ) → n < 2 ^ 32 → ((ms : List ℕ) → o ≡ Some ms → AreSmall ms) → with_first n o ≡ Some ns → AreSmall ns
+first_small : (o : Option (List ℕ)) (n : ℕ) (ns : List ℕ) → n < 2 ^ 32 → ((ms : List ℕ) → o ≡ Some ms → AreSmall ms) → option_map (λ (ns : List ℕ). n ∷ ns) o ≡ Some ns → AreSmall ns
 first_small None n ns small others is = cc
 first_small (Some ms) n ns small others is = let same : n ∷ ms ≡ ns = cc in subst AreSmall same (small, others ms refl)
 
-numbers_in-small : (words : List (List ℕ)) (ns : List ℕ) → numbers_in words ≡ Some ns → AreSmall ns
+numbers_in-small : (words : List (List ℕ)) (ns : List ℕ) → numbers_in greatest_number words ≡ Some ns → AreSmall ns
 numbers_in-small [] ns is = let same : [] ≡ ns = cc in subst AreSmall same tt
 numbers_in-small (word ∷ words) ns is =
-    let found = found_some (λ n. with_first n (numbers_in words)) (number word) ns is in
-    first_small (numbers_in words) found.0 ns (at_most_small (number_of word) found.0 found.1) (λ ms read. numbers_in-small words ms read) found.2
+    let found = found_some (λ n. option_map (λ (ns : List ℕ). n ∷ ns) (numbers_in greatest_number words)) (number word) ns is in
+    first_small (numbers_in greatest_number words) found.0 ns (at_most_small (number_of word) found.0 found.1) (λ ms read. numbers_in-small words ms read) found.2
 
 not_refused : (b : Bool) (o : Option (List ℕ)) (ns : List ℕ) → cond b None o ≡ Some ns → o ≡ Some ns
 not_refused true o ns is = cc
@@ -43,17 +44,17 @@ not_refused false o ns is = is
 
 numbers-small : (words : List (List ℕ)) (ns : List ℕ) → numbers words ≡ Some ns → AreSmall ns
 unfolding numbers
-numbers-small words ns is = numbers_in-small words ns (not_refused (nat_lt 16 (length words)) (numbers_in words) ns is)
+numbers-small words ns is = numbers_in-small words ns (not_refused (nat_lt 16 (length words)) (numbers_in greatest_number words) ns is)
 
-first_count : (o : Option (List ℕ)) (n : ℕ) (ns : List ℕ) (count : ℕ) → ((ms : List ℕ) → o ≡ Some ms → length ms ≡ count) → with_first n o ≡ Some ns → length ns ≡ count + 1
+first_count : (o : Option (List ℕ)) (n : ℕ) (ns : List ℕ) (count : ℕ) → ((ms : List ℕ) → o ≡ Some ms → length ms ≡ count) → option_map (λ (ns : List ℕ). n ∷ ns) o ≡ Some ns → length ns ≡ count + 1
 first_count None n ns count others is = cc
 first_count (Some ms) n ns count others is = let same : n ∷ ms ≡ ns = cc in omega (arith, ap length same, others ms refl)
 
-numbers_in-count : (words : List (List ℕ)) (ns : List ℕ) → numbers_in words ≡ Some ns → length ns ≡ length words
+numbers_in-count : (words : List (List ℕ)) (ns : List ℕ) → numbers_in greatest_number words ≡ Some ns → length ns ≡ length words
 numbers_in-count [] ns is = let same : [] ≡ ns = cc in ap length (sym same)
 numbers_in-count (word ∷ words) ns is =
-    let found = found_some (λ n. with_first n (numbers_in words)) (number word) ns is in
-    omega (arith, first_count (numbers_in words) found.0 ns (length words) (λ ms read. numbers_in-count words ms read) found.2)
+    let found = found_some (λ n. option_map (λ (ns : List ℕ). n ∷ ns) (numbers_in greatest_number words)) (number word) ns is in
+    omega (arith, first_count (numbers_in greatest_number words) found.0 ns (length words) (λ ms read. numbers_in-count words ms read) found.2)
 
 few_words : (b : Bool) (o : Option (List ℕ)) (ns : List ℕ) → cond b None o ≡ Some ns → b ≡ false
 few_words true o ns is = cc
@@ -62,8 +63,8 @@ few_words false o ns is = refl
 numbers-few : (words : List (List ℕ)) (ns : List ℕ) → numbers words ≡ Some ns → length ns ≤ 16
 unfolding numbers
 numbers-few words ns is =
-    let few = few_words (nat_lt 16 (length words)) (numbers_in words) ns is in
-    let count = numbers_in-count words ns (not_refused (nat_lt 16 (length words)) (numbers_in words) ns is) in
+    let few = few_words (nat_lt 16 (length words)) (numbers_in greatest_number words) ns is in
+    let count = numbers_in-count words ns (not_refused (nat_lt 16 (length words)) (numbers_in greatest_number words) ns is) in
     grind (arith, nat_tests)
 
 small_at : (ns : List ℕ) (k : ℕ) → AreSmall ns → get_or ns k 0 < 2 ^ 32

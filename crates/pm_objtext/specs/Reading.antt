@@ -1,11 +1,10 @@
 -- What a line of a text says, or that its form is wrong.
-use Rattle.std.specs.Prelude.{ℕ, Bool, ◌==◌, ◌&&◌, nat_lt, if◌then◌else◌, List, [], ◌∷◌, length, drop, find, slice_get, slice_index, Option, Some, None, option_and_then}
-use Rattle.std.specs.List.{list_all}
+use Rattle.std.specs.Prelude.{ℕ, ◌==◌, nat_lt, if◌then◌else◌, List, [], ◌∷◌, length, drop, find, slice_get, slice_index, Option, Some, None, option_and_then}
 use Rattle.std.specs.Option.{option_map}
 use Rattle.std.specs.Str.{bytes_eq}
-use Rattle.pm_io.specs.Lines.{without_return, is_plain}
+use Rattle.pm_io.specs.Lines.{is_readable}
 use Rattle.pm_io.specs.Words.{word_texts}
-use Rattle.pm_io.specs.Numbers.{number_of, at_most}
+use Rattle.pm_io.specs.Numbers.{number_of, numbers_in, at_most}
 use Rattle.pm_object.specs.declared.object.Pair.{Pair}
 use Rattle.pm_object.specs.declared.object.Section.{Section}
 use Rattle.pm_objtext.specs.declared.names.Keyword.{Keyword}
@@ -16,26 +15,17 @@ use Rattle.pm_objtext.specs.Names.{all_keywords, all_sections, keyword_text, sec
 
 -- ---- words and numbers
 
--- a line has less than 256 bytes without its line feed, and is plain, its comment too
-abbrev pub is_readable : List ℕ → Bool
-is_readable line = nat_lt (length line) 256 && list_all is_plain (without_return line)
+-- the greatest number of a word
+abbrev pub greatest_number : ℕ
+greatest_number = 4294967295
 
 -- a number of 32 bits
 abbrev pub number : List ℕ → Option ℕ
-number word = at_most 4294967295 (number_of word)
-
-abbrev pub with_first : ℕ → Option (List ℕ) → Option (List ℕ)
-with_first n None = None
-with_first n (Some ns) = Some (n ∷ ns)
-
--- all of these words as numbers
-abbrev pub numbers_in : List (List ℕ) → Option (List ℕ)
-numbers_in [] = Some []
-numbers_in (word ∷ words) = option_and_then (λ n. with_first n (numbers_in words)) (number word)
+number word = at_most greatest_number (number_of word)
 
 -- the words of a line after the first one as numbers, where there are at most 16
 unfoldable pub numbers : List (List ℕ) → Option (List ℕ)
-numbers words = if nat_lt 16 (length words) then None else numbers_in words
+numbers words = if nat_lt 16 (length words) then None else numbers_in greatest_number words
 
 -- ---- items
 

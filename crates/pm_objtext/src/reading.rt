@@ -3,18 +3,12 @@
 ghost use Rattle.std.specs.Prelude.{◌≡◌, slice_get, drop};
 ghost use Rattle.std.specs.Option.{option_map};
 ghost use Rattle.pm_io.specs.Words.{word_texts};
-ghost use Rattle.pm_objtext.specs.Reading.{is_readable, number, numbers, keyword_of, section_of, opening, master_of, slave_of, group_of, preset_of, pair_of, config_of, gpo_of, record_of, keyword_item, words_item, item_of};
+ghost use Rattle.pm_objtext.specs.Reading.{number, numbers, keyword_of, section_of, opening, master_of, slave_of, group_of, preset_of, pair_of, config_of, gpo_of, record_of, keyword_item, words_item, item_of};
 
 use crate::item::{Item, Numbers};
 use crate::names::{ALL_KEYWORDS, ALL_SECTIONS, Keyword, keyword_text, section_text};
-use pm_io::{TOO_LONG, is_plain, number, without_return, word_text};
+use pm_io::{is_readable, number, word_text};
 use pm_object::{MasterRec, Pair, PreRec, Section, SlaveRec};
-
-fn is_readable(line: &[u8]) -> bool
-    ensures { result ≡ is_readable line.now }
-{
-    line.len() < TOO_LONG && is_plain(without_return(line))
-}
 
 fn number_at(word: &[u8]) -> Option<u32>
     ensures { result ≡ number word.now }

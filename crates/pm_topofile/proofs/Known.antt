@@ -3,7 +3,7 @@ use Rattle.std.proofs.Common.{◌≡◌, ℕ, zero, suc, ◌+◌, ◌<◌, ◌�
 use Rattle.std.specs.Prelude.{IfOk, ⊤}
 use Rattle.std.specs.List.{AllByRecursion}
 use Rattle.std.proofs.lemmas.Bool.Decides.{nat_tests}
-use Rattle.pm_io.specs.Lines.{lines_of}
+use Rattle.pm_io.specs.Lines.{lines_of, is_readable}
 use Rattle.pm_io.specs.Numbers.{number_of, at_most}
 use Rattle.pm_io.specs.Words.{word_texts}
 use Rattle.pm_base.specs.declared.names.NodeId.{NodeId}
@@ -22,7 +22,7 @@ use Rattle.pm_topofile.specs.declared.table.Keyword.TheVariants as keywords
 use Rattle.pm_topofile.specs.declared.item.Item.{Item}
 use Rattle.pm_topofile.specs.declared.item.Item.TheVariants.{Empty, Power, Proc, Slave, State, Line, Owner}
 use Rattle.pm_topofile.specs.Answers.{Gives}
-use Rattle.pm_topofile.specs.Reading.{is_readable, power_with, proc_with, slave_with, state_with, line_with, owner_with, form_item, has_count, keyword_of, keyword_item, words_item, item_of}
+use Rattle.pm_topofile.specs.Reading.{power_with, proc_with, slave_with, state_with, line_with, owner_with, form_item, has_count, keyword_of, keyword_item, words_item, item_of}
 use Rattle.pm_topofile.specs.Taking.{nothing, stands, place_of, optional_place, under, with_state, with_power, with_proc, with_slave, placed, taken}
 use Rattle.pm_topofile.specs.Meaning.{at_line, item_taken, line_taken, lines_taken, unless_bad, unless_broken, checked, meaning, most_bytes}
 

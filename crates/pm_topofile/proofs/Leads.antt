@@ -17,7 +17,8 @@ use Rattle.pm_topofile.specs.declared.item.SlaveLine.{SlaveLine}
 use Rattle.pm_topofile.specs.declared.item.Item.{Item}
 use Rattle.pm_topofile.specs.declared.item.Item.TheVariants.{Power, Proc, Slave, State, Line, Owner}
 use Rattle.pm_topofile.specs.Table.{keyword_text, greatest, greatest_flag}
-use Rattle.pm_topofile.specs.Reading.{keyword_item, form_item, has_count, node_in, optional_in, number, numbers_in}
+use Rattle.pm_io.specs.Numbers.{numbers_in}
+use Rattle.pm_topofile.specs.Reading.{keyword_item, form_item, has_count, node_in, optional_in, number}
 use Rattle.pm_topofile.specs.Taking.{taken}
 use Rattle.pm_topofile.specs.Meaning.{line_taken, lines_taken}
 use Rattle.pm_topofile.specs.Printing.{IsSmall, AreSmall, flag, line_text, number_of, owner_words}
@@ -111,7 +112,7 @@ numbers_of procs = map (λ (n : NodeId). n.0) procs
 abbrev pub AreSmallNodes : List NodeId → Type 0
 AreSmallNodes procs = AllByRecursion (λ (n : NodeId). n.0 < 2 ^ 32) procs
 
-numbers-bare : (procs : List NodeId) → AreSmallNodes procs → numbers_in (map bare (map number_of procs)) ≡ Some (numbers_of procs)
+numbers-bare : (procs : List NodeId) → AreSmallNodes procs → numbers_in greatest (map bare (map number_of procs)) ≡ Some (numbers_of procs)
 numbers-bare [] small = refl
 numbers-bare (p ∷ procs) small = rw (number-bare p.0 small.0, numbers-bare procs small.1) refl
 

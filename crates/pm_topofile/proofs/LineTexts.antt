@@ -9,11 +9,11 @@ use Rattle.std.proofs.lemmas.Bool.Decides.{nat_tests}
 use Rattle.std.proofs.lemmas.Fmt.{decimal_is_IsNumeral}
 use Rattle.std.proofs.Math.Bool.{and-false}
 use Rattle.std.proofs.Math.Seq.{drop-append_seam, take-append_seam}
-use Rattle.pm_io.specs.Lines.{without_return, is_plain}
+use Rattle.pm_io.specs.Lines.{without_return, is_plain, is_readable}
 use Rattle.pm_io.specs.Words.{is_blank, words_from, words, word_texts, text_between}
 use Rattle.pm_io.specs.Numbers.{number_of}
 use Rattle.pm_base.proofs.Elements.{AllByRecursion-append}
-use Rattle.pm_topofile.specs.Reading.{is_readable, number}
+use Rattle.pm_topofile.specs.Reading.{number}
 
 -- ---- bytes
 

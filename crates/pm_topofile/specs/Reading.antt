@@ -1,11 +1,10 @@
 -- What a line of a topology's text says, or that its form is wrong.
-use Rattle.std.specs.Prelude.{ℕ, Bool, ◌==◌, ◌&&◌, nat_lt, nat_le, if◌then◌else◌, List, [], ◌∷◌, length, drop, find, slice_get, Option, Some, None, option_and_then}
-use Rattle.std.specs.List.{list_all}
+use Rattle.std.specs.Prelude.{ℕ, Bool, ◌==◌, ◌&&◌, nat_le, if◌then◌else◌, List, [], ◌∷◌, length, drop, find, slice_get, Option, Some, None, option_and_then}
 use Rattle.std.specs.Option.{option_map}
 use Rattle.std.specs.Str.{bytes_eq}
-use Rattle.pm_io.specs.Lines.{without_return, is_plain}
+use Rattle.pm_io.specs.Lines.{is_readable}
 use Rattle.pm_io.specs.Words.{word_texts}
-use Rattle.pm_io.specs.Numbers.{number_of, at_most}
+use Rattle.pm_io.specs.Numbers.{number_of, numbers_in, at_most}
 use Rattle.pm_base.specs.declared.names.NodeId.{NodeId}
 use Rattle.pm_topofile.specs.declared.table.Keyword.{Keyword}
 use Rattle.pm_topofile.specs.declared.table.Keyword.TheVariants as keywords
@@ -14,10 +13,6 @@ use Rattle.pm_topofile.specs.declared.item.Item.TheVariants.{Empty, Power, Proc,
 use Rattle.pm_topofile.specs.Table.{all_keywords, keyword_text, least_words, most_words, greatest, greatest_flag, greatest_caps, none_text}
 
 -- ---- words and numbers
-
--- a line has less than 256 bytes without its line feed, and is plain, its comment too
-abbrev pub is_readable : List ℕ → Bool
-is_readable line = nat_lt (length line) 256 && list_all is_plain (without_return line)
 
 -- a number that is at most the greatest one
 abbrev pub number : ℕ → List ℕ → Option ℕ
@@ -45,11 +40,6 @@ optional_at words k = option_and_then optional_in (slice_get words k)
 
 abbrev pub flag_at : List (List ℕ) → ℕ → Option Bool
 flag_at words k = option_map (λ n. n == 1) (number_at greatest_flag words k)
-
--- all of these words as numbers
-abbrev pub numbers_in : List (List ℕ) → Option (List ℕ)
-numbers_in [] = Some []
-numbers_in (word ∷ words) = option_and_then (λ n. option_map (λ (ns : List ℕ). n ∷ ns) (numbers_in words)) (number greatest word)
 
 -- ---- the lines, by their words
 
@@ -84,7 +74,7 @@ form_item keywords.Proc words = proc_with (node_at words 1) (node_at words 2) (n
 form_item keywords.Slave words = slave_with (node_at words 1) (node_at words 2)
 form_item keywords.State words = state_with (number_at greatest_caps words 1) (number_at greatest words 2) (flag_at words 3) (number_at greatest words 4)
 form_item keywords.Line words = line_with (number_at greatest words 1) (optional_at words 2)
-form_item keywords.Owner words = owner_with (node_at words 1) (numbers_in (drop 2 words))
+form_item keywords.Owner words = owner_with (node_at words 1) (numbers_in greatest (drop 2 words))
 
 abbrev pub keyword_of : List ℕ → Option Keyword
 keyword_of word = find (λ k. bytes_eq (keyword_text k) word) all_keywords

@@ -2,8 +2,9 @@
 
 ghost use Rattle.std.specs.Prelude.{◌≡◌, ◌≤◌, length, drop};
 ghost use Rattle.std.specs.Option.{option_map};
+ghost use Rattle.pm_io.specs.Numbers.{numbers_in};
 ghost use Rattle.pm_io.specs.Words.{word_texts};
-ghost use Rattle.pm_topofile.specs.Reading.{is_readable, number, number_at, node_in, node_at, optional_in, optional_at, flag_at, numbers_in, power_with, proc_with, slave_with, state_with, line_with, owner_with, form_item, keyword_of, has_count, keyword_item, item_of};
+ghost use Rattle.pm_topofile.specs.Reading.{number, number_at, node_in, node_at, optional_in, optional_at, flag_at, power_with, proc_with, slave_with, state_with, line_with, owner_with, form_item, keyword_of, has_count, keyword_item, item_of};
 ghost use Rattle.pm_topofile.specs.Table.{greatest, greatest_caps};
 
 use crate::item::{Item, Members, PowerLine, ProcLine, SlaveLine};
@@ -12,14 +13,8 @@ use crate::table::{
     most_words,
 };
 use pm_base::{Caps, LineId, NodeId};
-use pm_io::{TOO_LONG, is_plain, number, without_return, word_text};
+use pm_io::{is_readable, number, word_text};
 use pm_topology::{LineDef, SlaveState};
-
-fn is_readable(line: &[u8]) -> bool
-    ensures { result ≡ is_readable line.now }
-{
-    line.len() < TOO_LONG && is_plain(without_return(line))
-}
 
 /// A number that is at most this great.
 fn number_in(word: &[u8], most: u32) -> Option<u32>
@@ -71,7 +66,7 @@ fn flag_at(line: &[u8], k: usize) -> Option<bool>
 /// The words after the first two as numbers.
 fn members_after(line: &[u8]) -> Option<Members>
     requires { length (word_texts line.now) ≤ 18 }
-    ensures { option_map (λ members. members.items) result ≡ numbers_in (drop 2 (word_texts line.now)) }
+    ensures { option_map (λ members. members.items) result ≡ numbers_in greatest (drop 2 (word_texts line.now)) }
 {
     let mut members = Members::new();
     let mut k = 2;
@@ -142,7 +137,7 @@ fn line_of(line: &[u8]) -> Option<Item>
 
 fn owner_of(line: &[u8]) -> Option<Item>
     requires { length (word_texts line.now) ≤ 18 }
-    ensures { let words = word_texts line.now in result ≡ owner_with (node_at words 1) (numbers_in (drop 2 words)) }
+    ensures { let words = word_texts line.now in result ≡ owner_with (node_at words 1) (numbers_in greatest (drop 2 words)) }
 {
     Some(Item::Owner(node_at(line, 1)?, members_after(line)?))
 }
