@@ -1,5 +1,6 @@
 pub mod AnewLaw
 pub mod ArmedLaw
+pub mod BelowLaw
 pub mod ChipLaw
 pub mod Each
 pub mod FollowLemmas

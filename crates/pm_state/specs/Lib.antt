@@ -1,3 +1,4 @@
+pub mod Below
 pub mod Boot
 pub mod Chip
 pub mod Choice

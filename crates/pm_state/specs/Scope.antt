@@ -1,5 +1,5 @@
 -- What a call takes down: processors, and the rows on slaves.
-use Rattle.std.specs.Prelude.{ℕ, ◌+◌, ◌<◌, ◌==◌, ◌&&◌, ⊤, Bool, true, false, if◌then◌else◌, List, [], ◌∷◌, ◌++◌, Option, Some, None, is_some, length}
+use Rattle.std.specs.Prelude.{ℕ, ◌+◌, ◌<◌, ◌==◌, ⊤, Bool, true, false, if◌then◌else◌, List, [], ◌∷◌, ◌++◌, Option, Some, None, length}
 use Rattle.pm_base.specs.declared.names.NodeId.{NodeId}
 use Rattle.pm_base.specs.declared.names.Mode.TheVariants.{Off}
 use Rattle.pm_topology.specs.declared.topology.ProcDef.{ProcDef}
@@ -10,8 +10,6 @@ use Rattle.pm_topology.specs.declared.places.Kind.TheVariants.{Proc, Power}
 use Rattle.pm_topology.specs.Places.{is_below, kind_of}
 use Rattle.pm_state.specs.declared.scope.Scope.{Scope}
 use Rattle.pm_state.specs.declared.scope.Scope.TheVariants.{Under, Own, All}
-use Rattle.pm_state.specs.declared.scope.Taken.{Taken}
-use Rattle.pm_state.specs.declared.scope.Taken.TheVariants as by
 use Rattle.pm_state.specs.Members.{owner_at, owns}
 use Rattle.pm_state.specs.Prims.{Prim, Put_proc, Clear}
 use Rattle.pm_state.specs.State.{Fixed}
@@ -27,9 +25,10 @@ abbrev pub is_slave_under : Topology → Kind → NodeId → Bool
 is_slave_under t (Power w) node = is_below t w node
 is_slave_under t _ node = false
 
--- a kind that is a power node is one of the chip's
+-- a kind that is a power node or a processor is one of the chip's
 abbrev pub IsPlaced : Topology → Kind → Type 0
 IsPlaced t (Power w) = w < length t.powers
+IsPlaced t (Proc p) = p < length t.procs
 IsPlaced t _ = ⊤
 
 -- the processor at place p, which has this number, is among those that go off
@@ -43,25 +42,21 @@ abbrev pub off_by : Option ℕ → ℕ → List Prim
 off_by None p = []
 off_by (Some m) p = Put_proc m p Off 0 ∷ []
 
+abbrev pub off : Fixed → ℕ → List Prim
+off fixed p = off_by (owner_at fixed.object fixed.topology p) p
+
 abbrev pub off_at : Fixed → Scope → ℕ → NodeId → List Prim
-off_at fixed scope p node =
-    if takes fixed scope p node then off_by (owner_at fixed.object fixed.topology p) p else []
+off_at fixed scope p node = if takes fixed scope p node then off fixed p else []
 
--- a scope by the kind of its forced node
-abbrev pub taken : Topology → Scope → Taken
-taken t (Under forced) = by.Under (kind_of t forced)
-taken t (Own m) = by.Own m
-taken t All = by.All
+-- the processors of the master at a place, or those of all masters
+abbrev pub of_masters : Option ℕ → Scope
+of_masters (Some m) = Own m
+of_masters None = All
 
-abbrev pub IsTakenPlaced : Topology → Taken → Type 0
-IsTakenPlaced t (by.Under kind) = IsPlaced t kind
-IsTakenPlaced t _ = ⊤
-
--- the processor at place p, which has this number, is among those, and a configured master has it
-abbrev pub goes_off : Fixed → Taken → ℕ → NodeId → Bool
-goes_off fixed (by.Under kind) p node = is_under fixed.topology kind p node && is_some (owner_at fixed.object fixed.topology p)
-goes_off fixed (by.Own m) p node = owns fixed.object fixed.topology m p
-goes_off fixed by.All p node = is_some (owner_at fixed.object fixed.topology p)
+-- a processor goes off, if it is among them
+abbrev pub off_of : Fixed → Option ℕ → ℕ → List Prim
+off_of fixed (Some m) p = if owns fixed.object fixed.topology m p then off fixed p else []
+off_of fixed None p = off fixed p
 
 -- of these processors, the first of which has place p, those that go off
 abbrev pub offs_from : Fixed → Scope → ℕ → List ProcDef → List Prim
@@ -72,14 +67,14 @@ offs_from fixed scope p (proc ∷ procs) = off_at fixed scope p proc.node ++ off
 abbrev pub offs : Fixed → Scope → List Prim
 offs fixed scope = offs_from fixed scope 0 fixed.topology.procs
 
--- the rows on a slave are cleared, where it has the node of this kind above it
-abbrev pub clear_by : Topology → Kind → ℕ → NodeId → List Prim
-clear_by t kind s node = if is_slave_under t kind node then Clear s ∷ [] else []
+-- the rows on the slave at place s are cleared
+abbrev pub clear : ℕ → List Prim
+clear s = Clear s ∷ []
 
--- the same where that is the forced node
+-- they are, if the slave has the forced node above it
 abbrev pub clear_at : Fixed → (forced : NodeId) → ℕ → NodeId → List Prim
 clear_at fixed forced s node =
-    clear_by fixed.topology (kind_of fixed.topology forced) s node
+    if is_slave_under fixed.topology (kind_of fixed.topology forced) node then clear s else []
 
 -- of these slaves, the first of which has place s, those whose rows are cleared
 abbrev pub clears_from : Fixed → (forced : NodeId) → ℕ → List SlaveDef → List Prim

@@ -1,10 +1,13 @@
-//! The chip of a book, with the kinds of its nodes by number.
+//! The chip of a book, with the kinds of its nodes by number and what is below each power node.
 
-ghost use Rattle.std.specs.Prelude.{◌≡◌, IfOk, slice_get};
+ghost use Rattle.std.specs.Prelude.{◌≡◌, ◌<◌, IfOk, length, slice_get};
 ghost use Rattle.pm_topology.specs.Places.{kind_of, slave_place as place_among};
+ghost use Rattle.pm_topology.specs.WellFormed.{IsWellFormed};
+ghost use Rattle.pm_state.specs.Below.{procs_below, slaves_below};
 ghost use Rattle.pm_state.specs.Chip.{AreKinds};
 
-use pm_base::{List, NoMemory, NodeId};
+use crate::below::{Below, all_below};
+use pm_base::{List, NoMemory, NodeId, with};
 use pm_topology::{Kind, SlaveDef, Topology};
 use std::alloc::Global;
 use std::marker::Model;
@@ -13,31 +16,40 @@ use std::marker::Model;
 const NUMBERED: u32 = 1024;
 
 /// The parts of a chip. Contracts see them alone. Beside them stand the kinds of the nodes with low numbers, which are
-/// as a rule all of them: such a node is found in constant time, and any other by a search.
+/// as a rule all of them: such a node is found in constant time, and any other by a search. For each power node the
+/// places of what is below it are kept, too.
 #[derive(Drop)]
 pub struct Chip {
     topology: Topology,
     kinds: List<Kind>,
+    below: List<Below>,
 }
 
 impl Model for Chip {
     ghost use Rattle.pm_topology.specs.declared.topology.Topology.{Topology};
+    ghost use Rattle.pm_state.specs.Below.{AreBelow};
     ghost use Rattle.pm_state.specs.Chip.{AreKinds};
 
     ghost Value = { Topology };
 
     ghost view = { λ chip. chip.topology };
 
-    ghost invariant = { λ chip. AreKinds chip.topology chip.kinds };
+    ghost invariant = { λ chip. AreKinds chip.topology chip.kinds × AreBelow chip.topology chip.below };
 }
 
 impl Chip {
     /// The parts of a chip, each node of which is looked for once.
     pub(crate) fn load(alloc: Global, topology: Topology) -> Result<Chip, NoMemory>
+        requires { IsWellFormed topology }
         ensures { IfOk result (λ chip. chip ≡ topology) }
     {
         let kinds = kinds_of(alloc, &topology)?;
-        Ok(Chip { topology, kinds })
+        let (kinds, below) = with(kinds, all_below(alloc, &topology))?;
+        Ok(Chip {
+            topology,
+            kinds,
+            below,
+        })
     }
 
     pub(crate) fn topology(&self) -> &Topology
@@ -54,6 +66,22 @@ impl Chip {
             Some(kind) => kind,
             None => self.topology.kind(node),
         }
+    }
+
+    /// The places of the slaves below the power node at place `w`, at any depth, in order.
+    pub(crate) fn slaves_below(&self, w: usize) -> &List<usize>
+        requires { w < length self.now.powers }
+        ensures { result.now ≡ slaves_below self.now w }
+    {
+        &self.below.get(w).slaves
+    }
+
+    /// The places of the processors below the power node at place `w`, at any depth, in order.
+    pub(crate) fn procs_below(&self, w: usize) -> &List<usize>
+        requires { w < length self.now.powers }
+        ensures { result.now ≡ procs_below self.now w }
+    {
+        &self.below.get(w).procs
     }
 
     /// The place of the slave that has this number.

@@ -2,6 +2,7 @@
 //! notes of the masters, and each change of it, one method each.
 #![tactic(auto)]
 
+mod below;
 mod chip;
 mod counters;
 mod laws;

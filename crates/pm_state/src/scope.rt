@@ -1,16 +1,17 @@
 //! What a call takes down: processors, and the rows on slaves.
 
-ghost use Rattle.std.specs.Prelude.{◌≡◌, ◌<◌, Some, if◌then◌else◌, length, slice_get};
-ghost use Rattle.pm_base.specs.declared.names.Mode.TheVariants.{Off};
+ghost use Rattle.std.specs.Prelude.{◌≡◌, ◌<◌, ◌∷◌, [], Some, length};
+ghost use Rattle.std.specs.List.{flat_map};
 ghost use Rattle.pm_topology.specs.Places.{kind_of};
-ghost use Rattle.pm_topology.specs.declared.topology.ProcDef.{ProcDef};
-ghost use Rattle.pm_topology.specs.declared.topology.SlaveDef.{SlaveDef};
-ghost use Rattle.pm_state.specs.Prims.{changed, with_proc};
+ghost use Rattle.pm_state.specs.Below.{procs_below, slaves_below};
+ghost use Rattle.pm_state.specs.Members.{owner_at};
+ghost use Rattle.pm_state.specs.Prims.{Clear, changed};
 ghost use Rattle.pm_state.specs.Scope as spec;
+ghost use Rattle.pm_state.specs.declared.scope.Scope.TheVariants.{Under};
 
 use crate::counters::drop_slave;
 use crate::tables::Tables;
-use pm_base::{Mode, NodeId};
+use pm_base::{List, Mode, NodeId};
 use pm_topology::{Kind, kinds_are_exact};
 
 /// The processors that a call takes off: the forced node or what is below it, those of the master at a
@@ -18,14 +19,6 @@ use pm_topology::{Kind, kinds_are_exact};
 #[derive(Clone, Copy, Debug, PartialEq, Eq)]
 pub enum Scope {
     Under(NodeId),
-    Own(usize),
-    All,
-}
-
-/// What a force takes down, by the kind of the forced node.
-#[derive(Clone, Copy)]
-enum Taken {
-    Under(Kind),
     Own(usize),
     All,
 }
@@ -40,93 +33,90 @@ impl Tables {
         self.topology.kind(forced)
     }
 
-    /// A scope by the kind of its forced node.
-    fn taken(&self, scope: Scope) -> Taken
-        ensures taken { result ≡ spec.taken self.now.fixed.topology scope }
-        ensures placed { spec.IsTakenPlaced self.now.fixed.topology result }
+    /// The places of the slaves below the power node at place `w`.
+    fn slaves_below(&self, w: usize) -> &List<usize>
+        requires { w < length self.now.fixed.topology.powers }
+        ensures { result.now ≡ slaves_below self.now.fixed.topology w }
     {
-        match scope {
-            Scope::Under(forced) => Taken::Under(self.forced_kind(forced)),
-            Scope::Own(m) => Taken::Own(m),
-            Scope::All => Taken::All,
-        }
+        self.topology.slaves_below(w)
     }
 
-    /// Whether the processor at a place is the node of this kind, or is below it.
-    fn is_under(&self, kind: Kind, p: usize) -> bool
-        requires place { p < length self.now.fixed.topology.procs }
-        requires placed { spec.IsPlaced self.now.fixed.topology kind }
-        ensures { (proc : ProcDef) → slice_get self.now.fixed.topology.procs p ≡ Some proc
-            → result ≡ spec.is_under self.now.fixed.topology kind p proc.node }
+    /// The places of the processors below the power node at place `w`.
+    fn procs_below(&self, w: usize) -> &List<usize>
+        requires { w < length self.now.fixed.topology.powers }
+        ensures { result.now ≡ procs_below self.now.fixed.topology w }
     {
-        let t = self.topology();
-        match kind {
-            Kind::Proc(q) => p == q,
-            Kind::Power(w) => t.below(w, t.procs.get(p).node),
-            Kind::Slave(_) | Kind::Unknown => false,
-        }
-    }
-
-    /// Whether the slave at a place is below the node of this kind.
-    fn is_slave_under(&self, kind: Kind, s: usize) -> bool
-        requires place { s < length self.now.fixed.topology.slaves }
-        requires placed { spec.IsPlaced self.now.fixed.topology kind }
-        ensures { (slave : SlaveDef) → slice_get self.now.fixed.topology.slaves s ≡ Some slave
-            → result ≡ spec.is_slave_under self.now.fixed.topology kind slave.node }
-    {
-        let t = self.topology();
-        match kind {
-            Kind::Power(w) => t.below(w, t.slaves.get(s).node),
-            Kind::Proc(_) | Kind::Slave(_) | Kind::Unknown => false,
-        }
-    }
-
-    /// Whether the processor at a place goes off: it is among those, and a configured master has it.
-    fn goes_off(&self, taken: Taken, p: usize) -> bool
-        requires place { p < length self.now.fixed.topology.procs }
-        requires placed { spec.IsTakenPlaced self.now.fixed.topology taken }
-        ensures { (proc : ProcDef) → slice_get self.now.fixed.topology.procs p ≡ Some proc
-            → result ≡ spec.goes_off self.now.fixed taken p proc.node }
-    {
-        match taken {
-            Taken::Under(kind) => self.is_under(kind, p) && self.owner(p).is_some(),
-            Taken::Own(m) => self.owns(m, p),
-            Taken::All => self.owner(p).is_some(),
-        }
-    }
-
-    /// The processor at a place goes off, if it is among those and a configured master has it.
-    fn put_off(&mut self, taken: Taken, p: usize)
-        requires place { p < length self.old.fixed.topology.procs }
-        requires placed { spec.IsTakenPlaced self.old.fixed.topology taken }
-        ensures { (proc : ProcDef) → slice_get self.old.fixed.topology.procs p ≡ Some proc
-            → self.new ≡ (if spec.goes_off self.old.fixed taken p proc.node
-            then with_proc p Off 0 self.old else self.old) }
-    {
-        if self.goes_off(taken, p) {
-            self.set_proc(p, Mode::Off, 0);
-        }
+        self.topology.procs_below(w)
     }
 
     /// The processors of a scope go off.
     pub fn take_off(&mut self, scope: Scope)
         ensures { self.new ≡ changed (spec.offs self.old.fixed scope) self.old }
     {
-        let taken = self.taken(scope);
-        for p in 0..self.topology().procs.len() {
-            self.put_off(taken, p);
+        match scope {
+            Scope::Under(forced) => self.force_off(forced),
+            Scope::Own(m) => self.put_masters_off(Some(m)),
+            Scope::All => self.put_masters_off(None),
         }
     }
 
-    /// The rows on the slave at a place are cleared but for their presets, if the node of this kind is above it.
-    fn clear_slave(&mut self, kind: Kind, s: usize)
-        requires place { s < length self.old.fixed.topology.slaves }
-        requires placed { spec.IsPlaced self.old.fixed.topology kind }
-        ensures { (slave : SlaveDef) → slice_get self.old.fixed.topology.slaves s ≡ Some slave
-            → self.new ≡ changed (spec.clear_by self.old.fixed.topology kind s slave.node) self.old }
+    /// A forced processor goes off, or those below a forced power node do.
+    fn force_off(&mut self, forced: NodeId)
+        ensures { self.new ≡ changed (spec.offs self.old.fixed (Under forced)) self.old }
     {
-        if self.is_slave_under(kind, s) {
-            drop_slave(&mut self.rows, s);
+        match self.forced_kind(forced) {
+            Kind::Proc(p) => self.put_off(p),
+            Kind::Power(w) => self.put_off_below(w),
+            Kind::Slave(_) | Kind::Unknown => {}
+        }
+    }
+
+    /// The processors below the power node at place `w` go off.
+    fn put_off_below(&mut self, w: usize)
+        requires { w < length self.old.fixed.topology.powers }
+        ensures { self.new ≡ changed (flat_map (spec.off self.old.fixed) (procs_below self.old.fixed.topology w))
+            self.old }
+    {
+        for k in 0..self.procs_below(w).len() {
+            let p = *self.procs_below(w).get(k);
+            self.put_off(p);
+        }
+    }
+
+    /// The processors of the master at a place go off, or those of all masters.
+    fn put_masters_off(&mut self, of: Option<usize>)
+        ensures { self.new ≡ changed (spec.offs self.old.fixed (spec.of_masters of)) self.old }
+    {
+        for p in 0..self.topology().procs.len() {
+            self.put_off_of(of, p);
+        }
+    }
+
+    /// The processor at place `p` goes off if it is one of the master's, or of any where none is named.
+    fn put_off_of(&mut self, of: Option<usize>, p: usize)
+        ensures { self.new ≡ changed (spec.off_of self.old.fixed of p) self.old }
+    {
+        match of {
+            Some(m) => self.put_own_off(m, p),
+            None => self.put_off(p),
+        }
+    }
+
+    /// The processor at place `p` goes off if the master at place `m` has it.
+    fn put_own_off(&mut self, m: usize, p: usize)
+        ensures { self.new ≡ changed (spec.off_of self.old.fixed (Some m) p) self.old }
+    {
+        if self.owns(m, p) {
+            self.set_proc(p, Mode::Off, 0);
+        }
+    }
+
+    /// The processor at place `p` goes off, if a configured master has it.
+    fn put_off(&mut self, p: usize)
+        ensures { self.new ≡ changed (spec.off self.old.fixed p) self.old }
+    {
+        if self.owner(p).is_some() {
+            self.set_proc(p, Mode::Off, 0);
         }
     }
 
@@ -134,9 +124,27 @@ impl Tables {
     pub fn clear_below(&mut self, forced: NodeId)
         ensures { self.new ≡ changed (spec.clears self.old.fixed forced) self.old }
     {
-        let kind = self.forced_kind(forced);
-        for s in 0..self.topology().slaves.len() {
-            self.clear_slave(kind, s);
+        match self.forced_kind(forced) {
+            Kind::Power(w) => self.clear_slaves(w),
+            Kind::Proc(_) | Kind::Slave(_) | Kind::Unknown => {}
         }
+    }
+
+    /// The rows on the slaves below the power node at place `w` are cleared but for their presets.
+    fn clear_slaves(&mut self, w: usize)
+        requires { w < length self.old.fixed.topology.powers }
+        ensures { self.new ≡ changed (flat_map spec.clear (slaves_below self.old.fixed.topology w)) self.old }
+    {
+        for k in 0..self.slaves_below(w).len() {
+            let s = *self.slaves_below(w).get(k);
+            self.clear_slave(s);
+        }
+    }
+
+    /// The rows on the slave at place `s` are cleared but for their presets.
+    fn clear_slave(&mut self, s: usize)
+        ensures { self.new ≡ changed (Clear s ∷ []) self.old }
+    {
+        drop_slave(&mut self.rows, s);
     }
 }
