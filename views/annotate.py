@@ -110,11 +110,12 @@ def reach(_room: str, obj: str, node: str, *topology: str) -> Shown:
 
 
 def isolate(room: str, obj: str, script: str, node: str, *topology: str) -> Shown:
-    """`isolate`."""
-    over = chip_of(obj, topology).words()
+    """`isolate`, and what more there is on the chip."""
+    board = chips.chosen(obj, objects.load(obj), topology)
+    over = board.chip.words()
     words = ["isolate", obj, translated(script, room)[1], node_in_numbers(node), *over]
     lines = run_text(words, ["isolate", obj, script, node, *over])
-    return Shown(lines, list(map(meaning_of_reached, lines)))
+    return Shown(lines, list(map(meaning_of_reached, lines)), list(beside(board, texts.number_of(words[3]) or 0, lines)))
 
 
 def print_text(_room: str, obj: str, *topology: str) -> Shown:

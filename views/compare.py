@@ -21,6 +21,7 @@ from chip import Board
 from forms import FOUND
 
 USAGE = "usage: ./pmu compare [--json] OBJ OBJ [TOPO]"
+OPTIONS = {"--json": False}
 
 # Which object it is by, in lines and in JSON.
 FIRST, SECOND = "-", "+"
@@ -227,7 +228,7 @@ def in_json(found: Differences, paths: Sequence[str]) -> dict[str, Any]:
 
 def main(words: Sequence[str]) -> int:
     """Compares what two objects permit."""
-    given, files = options.taken(words, {"--json": False}, USAGE)
+    given, files = options.taken(words, OPTIONS, USAGE)
     if len(files) not in (2, 3):
         raise program.BadUse(USAGE)
     paths, topology = files[:2], files[2:]

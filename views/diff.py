@@ -1,4 +1,4 @@
-"""`diff OBJ SCRIPT NODE [TOPO]`: a script with the messages of the master NODE and without them, side by side.
+"""`diff [--json] OBJ SCRIPT NODE [TOPO]`: a script with the messages of the master NODE and without them, side by side.
 
 In the second run each message of NODE, and each power call if NODE is the master that they are sent as, is an empty line, so
 that lines keep their numbers. By step it shows what differs: units with the values from and to, starts, answers, callbacks and
@@ -9,14 +9,16 @@ other master may use, and what it is told, but for the answers to its messages.
 
 import re
 import tempfile
-from typing import Iterator, NamedTuple, Sequence
+from typing import Any, Iterator, NamedTuple, Sequence
 
 import annotate
 import chip as chips
+import findings
 import moves
 import lines as texts
 import names
 import objects
+import options
 import permits
 import program
 import replay_meanings
@@ -25,7 +27,8 @@ import steps
 import to_names
 from chip import Board, Chip
 
-USAGE = "usage: ./pmu diff OBJ SCRIPT NODE [TOPO]"
+USAGE = "usage: ./pmu diff [--json] OBJ SCRIPT NODE [TOPO]"
+OPTIONS = {"--json": False}
 
 NODE_USED, ACKNOWLEDGE = 2007, 31
 
@@ -33,6 +36,7 @@ NODE_USED, ACKNOWLEDGE = 2007, 31
 WORDS = {"processor": "proc", "power": "power", "slave": "slave"}
 
 TITLES = {"answer": "answer to", "call": "callback to", "run": "start of"}
+SAID = {"answer": "answer", "call": "callback", "run": "start"}
 REMARKS = ("DENIED", "REFUSED", "NOT HEARD")
 
 
@@ -255,8 +259,37 @@ def text(board: Board, node: int, rows: Sequence[list[Row]], script: Sequence[st
     yield f"successes that others lose: {', '.join(counts)}"
 
 
+# As JSON.
+
+
+def in_subject(chip: Chip, subject: tuple) -> dict[str, Any]:
+    """What a row is about, as keys and values."""
+    kind, number = subject
+    if kind in SAID:
+        return {"of": SAID[kind], **findings.unit("processor" if kind == "run" else "master", number)}
+    of, unit = ("device", number) if kind == "device" else ("book", steps.Unit(kind, number))
+    return {"of": of, **findings.unit(chip.nodes[unit.number].kind if unit.kind == "node" else unit.kind, unit.number)}
+
+
+def in_row(board: Board, node: int, row: Row) -> dict[str, Any]:
+    """A row as keys and values."""
+    values = {"with": row.with_it or None, "without": row.without or None, "lost": row.remark.lower() or None}
+    return {**in_subject(board.chip, row.subject), "own": is_own(board, node, row.subject), **values}
+
+
+def in_json(board: Board, node: int, rows: Sequence[list[Row]], script: Sequence[str], silenced: Sequence[int]) -> dict[str, Any]:
+    """What differs, by the lines of the script, as keys and values."""
+    found = []
+    for number, of_step in enumerate(rows):
+        text_of = to_names.line_in_names(script[number - 1], {}) if number else "load"
+        found += [{"line": number, "text": text_of, "rows": [in_row(board, node, row) for row in of_step]}] if of_step else []
+    calls = sum(is_call(script[number - 1]) for number in silenced)
+    return {"master": names.node_name(node), "messages": len(silenced) - calls, "power_calls": calls, "lines": found}
+
+
 def main(words: Sequence[str]) -> int:
     """Compares a script with itself without the messages of a master."""
+    given, words = options.taken(words, OPTIONS, USAGE)
     if len(words) not in (3, 4):
         raise program.BadUse(USAGE)
     path, file, word, *topology = words
@@ -272,6 +305,8 @@ def main(words: Sequence[str]) -> int:
         runs = [steps.steps_of(steps.Run(path, board.chip, room), each) for each in (first, second)]
     script = steps.script_lines(first)
     rows = list(rows_of_steps(board.chip, runs, node, len(script)))
-    shown = text(board, node, rows, script, silenced)
-    print("".join(line + "\n" for line in shown), end="")
+    if given:
+        print(findings.whole("diff", 0, **in_json(board, node, rows, script, silenced)), end="")
+    else:
+        print("".join(line + "\n" for line in text(board, node, rows, script, silenced)), end="")
     return 0

@@ -1,4 +1,4 @@
-"""`--dot [--all] reach OBJ NODE [TOPO]`: the reach of a master as a graph, for Graphviz.
+"""`--dot [--all] [--json] reach OBJ NODE [TOPO]`: the reach of a master as a graph, for Graphviz.
 
 An arrow from a master to another says why the one leads to the other, and an arrow from a master to slaves or reset
 lines why it can change them; each is that of the reach, which names the first reason alone. With `--all` each master of the
@@ -7,18 +7,21 @@ Masters beyond the reach are dotted, and what else is beyond isn't drawn.
 """
 
 import sys
-from typing import Callable, Iterator, NamedTuple, Optional, Sequence
+from typing import Any, Callable, Iterator, NamedTuple, Optional, Sequence
 
 import annotate
 import chip as chips
+import findings
 import lines as texts
 import names
 import objects
+import options
 import permits
 from chip import Board, Chip
 from program import BadUse, run
 
-USAGE = "--dot is followed by reach OBJ NODE [TOPO], or --all reach OBJ NODE [TOPO]"
+USAGE = "--dot is followed by reach OBJ NODE [TOPO], with --all or --json before it or not"
+OPTIONS = {"--all": False, "--json": False}
 
 COLUMN = 8  # names in one column of a box
 
@@ -200,10 +203,34 @@ def lines_of(graph: Graph, start: int, has_all: bool) -> Iterator[str]:
     yield "}"
 
 
+def arrows_in_json(graph: Graph) -> Iterator[dict[str, Any]]:
+    """The arrows, each from a master to what it leads to, can change, or has."""
+    ends: list[tuple[str, int, Sequence[Arrow]]] = [(permits.MASTER, number, arrows) for number, arrows in graph.masters.items()]
+    ends += [(kind, number, arrows) for (kind, number), arrows in graph.units.items()]
+    for kind, number, arrows in ends:
+        for arrow in arrows:
+            yield {"from": names.node_name(arrow.start), "to": findings.unit(kind, number), "why": arrow.why.split(", ")}
+    for domain in graph.board.chip.of_kind("power"):
+        for proc, master in processors_of(graph, domain).items():
+            yield {"from": names.node_name(master), "to": findings.unit("processor", proc), "why": ["runs on"]}
+
+
+def in_json(graph: Graph, start: int) -> dict[str, Any]:
+    """The graph as keys and values: the masters, the frames, and the arrows."""
+    chip = graph.board.chip
+    masters = [{**findings.unit(permits.MASTER, node), "in_reach": node in graph.masters} for node in permits.masters(graph.board)]
+    drawn = [number for number in chip.of_kind("power") if domain_lines(number, graph, "")]
+    units = [(kind, number) for kind, number in graph.units if kind == permits.SLAVE]
+    units += [("processor", proc) for domain in drawn for proc in processors_of(graph, domain)]
+    inside = [(kind, number, chip.nodes[number].parent) for kind, number in [*((permits.POWER, it) for it in drawn), *units]]
+    frames = [{**findings.unit(kind, number), "in": None if parent is None else names.node_name(parent)} for kind, number, parent in inside]
+    return {"master": names.node_name(start), "masters": masters, "frames": frames, "arrows": list(arrows_in_json(graph))}
+
+
 def main(words: Sequence[str]) -> int:
     """Writes the graph of a reach."""
-    has_all = list(words[:1]) == ["--all"]
-    rest = list(words[1:] if has_all else words)
+    given, rest = options.taken(words, OPTIONS, USAGE)
+    has_all = "--all" in given
     if len(rest) not in (3, 4) or rest[0] != "reach":
         raise BadUse(USAGE)
     _, obj, word, *topology = rest
@@ -214,5 +241,8 @@ def main(words: Sequence[str]) -> int:
     start = texts.number_of(node)
     members = permits.checked_reach(obj, board, start)
     graph = graph_of(board, members, has_all)
-    sys.stdout.writelines(line + "\n" for line in lines_of(graph, start, has_all))
+    if "--json" in given:
+        print(findings.whole("--dot", 0, **in_json(graph, start)), end="")
+    else:
+        sys.stdout.writelines(line + "\n" for line in lines_of(graph, start, has_all))
     return 0

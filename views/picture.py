@@ -1,4 +1,4 @@
-"""`--svg replay OBJ SCRIPT [TOPO]`: the waveform of a replay as a picture (SVG).
+"""`--svg [--json] replay OBJ SCRIPT [TOPO]`: the waveform of a replay as a picture (SVG).
 
 It shows what changes after the load, by the dump that `--vcd` writes: a signal of two values as high or low, one of more as boxes
 with the name of the state or mode. If the device didn't follow the book, or a line was pulsed, the unit has a second row with
@@ -9,16 +9,21 @@ import bisect
 import sys
 import tempfile
 from html import escape
-from typing import Iterator, NamedTuple, Optional, Sequence
+from typing import Any, Iterator, NamedTuple, Optional, Sequence
 
 import chip as chips
+import findings
 import objects
+import options
 import steps
 import to_numbers
+import wave_signals
 import waveform
 from program import BadUse, read_file
+from steps import Unit
 
-USAGE = "--svg is followed by replay OBJ SCRIPT [TOPO]"
+USAGE = "--svg is followed by replay OBJ SCRIPT [TOPO], with --json before it or not"
+OPTIONS = {"--json": False}
 
 LEFT, STEP, ROW = 140, 52, 26  # pixels: the names, a script line, a signal
 HIGH, LOW = 5, 20  # of a signal, from the top of its row
@@ -78,9 +83,8 @@ class Dump(NamedTuple):
 class Row(NamedTuple):
     """A signal as it is drawn."""
 
-    label: str
+    signal: Signal
     words: Sequence[str]
-    is_of_device: bool
     lines: dict[int, list[Value]]  # by line of the script the values that it goes through
 
     def spans(self, end: int) -> list[tuple[int, int, int]]:
@@ -165,7 +169,7 @@ def row_of(dump: Dump, signal: Signal, starts: list[int]) -> Row:
     lines: dict[int, list[Value]] = {}
     for time, value in signal.changes:
         lines.setdefault(bisect.bisect(starts, time) - 1, []).append(value)
-    return Row(signal.label(), dump.words[signal.scope, signal.name], signal.is_of_device(), lines)
+    return Row(signal, dump.words[signal.scope, signal.name], lines)
 
 
 def is_followed(book: Row, device: Row, end: int) -> bool:
@@ -199,7 +203,7 @@ def column(line: int) -> int:
 
 def boxes(row: Row, end: int, top: int) -> Iterator[str]:
     """A signal of some values: a box for each, a flat one for 0."""
-    device = " device" * row.is_of_device
+    device = " device" * row.signal.is_of_device()
     for begin, until, value in row.spans(end):
         left, right = column(begin), column(until)
         shape = f"{left},{top + 12.5} {left + 4},{top + HIGH} {right - 4},{top + HIGH}"
@@ -210,7 +214,7 @@ def boxes(row: Row, end: int, top: int) -> Iterator[str]:
 
 def levels(row: Row, end: int, top: int) -> Iterator[str]:
     """A signal of two values: a line, high or low, with a narrow peak for a pulse."""
-    kind, path = "wave" + " device" * row.is_of_device, ""
+    kind, path = "wave" + " device" * row.signal.is_of_device(), ""
     for begin, until, value in row.spans(end):
         height = top + (HIGH if value else LOW)
         path += f"{'V' if path else f'M{column(begin)} '}{height}H{column(until)}"
@@ -250,21 +254,41 @@ def drawn(dump: Dump) -> Iterator[str]:
     yield from grid(script, top, height)
     for place, row in enumerate(rows):
         above = top + ROW * place
-        yield f'<text class="name" x="{LEFT - 8}" y="{above + 17}">{row.label}</text>'
+        yield f'<text class="name" x="{LEFT - 8}" y="{above + 17}">{row.signal.label()}</text>'
         yield from (levels if len(row.words) <= 2 else boxes)(row, len(script), above)
         yield from crosses(row, above)
     yield "</svg>"
 
 
+def in_row(chip: chips.Chip, row: Row, units: dict[tuple[tuple[str, ...], str], Unit], end: int) -> dict[str, Any]:
+    """A row as keys and values."""
+    unit = units[row.signal.scope, row.signal.name]
+    spans = [{"from": begin, "until": until, "state": row.words[value]} for begin, until, value in row.spans(end)]
+    about = {"of": "device" if row.signal.is_of_device() else "book", **findings.unit(waveform.kind_of(chip, unit), unit.number)}
+    return {**about, "spans": spans, "pulses": row.pulses(), "refused": row.refused()}
+
+
+def in_json(chip: chips.Chip, dump: Dump) -> dict[str, Any]:
+    """What the picture draws, as keys and values: the lines of the script, and each row by these."""
+    script = script_of(dump)
+    units = {(path, wave_signals.name_of(it.unit)): it.unit for path, those in wave_signals.scopes(chip) for it in those}
+    rows = [in_row(chip, row, units, len(script)) for row in rows_of(dump)]
+    return {"lines": [{"line": number, "text": text} for number, (_, text) in enumerate(script)], "rows": rows}
+
+
 def main(words: Sequence[str]) -> int:
     """Writes the picture of a replay."""
-    if len(words) not in (3, 4) or words[0] != "replay":
+    given, rest = options.taken(words, OPTIONS, USAGE)
+    if len(rest) not in (3, 4) or rest[0] != "replay":
         raise BadUse(USAGE)
-    _, obj, file, *topology = words
+    _, obj, file, *topology = rest
     chip = chips.chosen(obj, objects.load(obj), topology).chip
     content = to_numbers.in_numbers(read_file(file), file)
     with tempfile.TemporaryDirectory() as room:
         run = steps.steps_of(steps.Run(obj, chip, room), content, file)
-    text = "\n".join(waveform.dump(chip, run, steps.script_lines(content)))
-    sys.stdout.writelines(line + "\n" for line in drawn(read(text)))
+    dump = read("\n".join(waveform.dump(chip, run, steps.script_lines(content))))
+    if given:
+        print(findings.whole("--svg", 0, **in_json(chip, dump)), end="")
+    else:
+        sys.stdout.writelines(line + "\n" for line in drawn(dump))
     return 0

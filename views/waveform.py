@@ -1,4 +1,4 @@
-"""`--vcd [--ticks] [--gtkw FILE] replay OBJ SCRIPT [TOPO]`: the replay as a value change dump (IEEE 1364), for GTKWave.
+"""`--vcd [--ticks] [--gtkw FILE] [--json] replay OBJ SCRIPT [TOPO]`: the replay as a value change dump (IEEE 1364), for GTKWave.
 
 A unit is a signal by its name, as the book has it: of a slave its state, of a processor its mode, of a power node whether it is
 up, of a reset line whether it is asserted, of a clock other than a PLL whether it runs. They lie in the scopes of their power
@@ -10,11 +10,13 @@ them: the line of the script, what is answered in it, and what the device refuse
 
 import sys
 import tempfile
-from typing import Iterator, NamedTuple, Optional, Sequence
+from typing import Any, Iterator, NamedTuple, Optional, Sequence
 
 import chip as chips
+import findings
 import lines as texts
 import objects
+import options
 import replay_meanings
 import saved_view
 import split
@@ -26,7 +28,8 @@ from program import BadUse, read_file
 from steps import Unit
 from wave_signals import Signal, code_of, codes_of, name_of, scopes, values_of, width_of
 
-USAGE = "--vcd is followed by replay OBJ SCRIPT [TOPO], with --ticks or --gtkw FILE before it or not"
+USAGE = "--vcd is followed by replay OBJ SCRIPT [TOPO], with --ticks, --gtkw FILE or --json before it or not"
+OPTIONS = {"--ticks": False, "--gtkw": True, "--json": False}
 
 # The characters of a text that GTKWave reads escaped.
 ESCAPED = {ord(" "): "\\x20", ord("\t"): "\\t", ord("\\"): "\\\\"}
@@ -118,38 +121,47 @@ def times_of(run: steps.Steps, script: list[str], by_ticks: bool) -> Times:
     return Times(parts, [second * parts + within for second, within in places] + [(second + 1) * parts])
 
 
-Changes = dict[int, list[str]]
+class Event(NamedTuple):
+    """A signal that takes a value; None is one that the device refused."""
+
+    time: int
+    line: int
+    signal: Signal
+    value: Optional[int]
 
 
-def add_moment(changes: Changes, chip: Chip, codes: dict[Signal, str], kept: dict[Unit, int], moment: steps.Moment, start: int) -> int:
-    """Adds what a moment changes: the book at its start, and each command in its turn. Gives when the next moment begins."""
-    for unit, value in moment.book:
-        signal = Signal(unit, False)
-        changes.setdefault(start, []).append(change(chip, signal, value, codes[signal]))
+def of_moment(kept: dict[Unit, int], moment: steps.Moment, start: int) -> tuple[list[Event], int]:
+    """What happens in a moment: the book changes at its start, and each command has its turn. And when the next moment begins."""
+    events = [Event(start, moment.line, Signal(unit, False), value) for unit, value in moment.book]
     refused: list[Signal] = []
     for time, (unit, value, is_taken) in enumerate(moment.commands, start + 1):
         # (an `x` ends with the next command)
-        changes.setdefault(time, []).extend(change(chip, it, kept.get(it.unit, 0), codes[it]) for it in refused)
+        events += [Event(time, moment.line, it, kept.get(it.unit, 0)) for it in refused]
         signal = Signal(unit, True)
         if is_taken:
             kept[unit] = value
         refused = [] if is_taken else [signal]
-        changes[time].append(change(chip, signal, value if is_taken else None, codes[signal]))
+        events.append(Event(time, moment.line, signal, value if is_taken else None))
     end = start + len(moment.commands) + 1
-    if refused:
-        changes.setdefault(end, []).extend(change(chip, it, kept.get(it.unit, 0), codes[it]) for it in refused)
-    return end
+    return events + [Event(end, moment.line, it, kept.get(it.unit, 0)) for it in refused], end
 
 
-def unit_changes(chip: Chip, run: steps.Steps, codes: dict[Signal, str], times: Times) -> Changes:
-    """The value changes of the units by their times."""
-    changes: Changes = {}
+def events_of(run: steps.Steps, times: Times) -> Iterator[Event]:
+    """All that happens to the units, by line."""
     kept: dict[Unit, int] = {}
     line, time = -1, 0
     for moment in run.moments:
         time = times.starts[moment.line] if moment.line != line else time
         line = moment.line
-        time = add_moment(changes, chip, codes, kept, moment, time)
+        events, time = of_moment(kept, moment, time)
+        yield from events
+
+
+def unit_changes(chip: Chip, run: steps.Steps, codes: dict[Signal, str], times: Times) -> dict[int, list[str]]:
+    """The value changes of the units by their times."""
+    changes: dict[int, list[str]] = {}
+    for event in events_of(run, times):
+        changes.setdefault(event.time, []).append(change(chip, event.signal, event.value, codes[event.signal]))
     return changes
 
 
@@ -164,12 +176,18 @@ def words_by_line(chip: Chip, run: steps.Steps) -> dict[str, dict[int, str]]:
     return {text: {line: "; ".join(said) for line, said in lines.items()} for text, lines in found.items()}
 
 
+def texts_of(chip: Chip, run: steps.Steps, script: list[str]) -> dict[str, dict[int, str]]:
+    """The texts by line: what it says, what is answered in it, and what the device refused."""
+    said = words_by_line(chip, run)
+    said["line"] = dict(enumerate(["load", *(to_names.line_in_names(line, {}) for line in script)]))
+    return said
+
+
 def dump(chip: Chip, run: steps.Steps, script: list[str], by_ticks: bool = False) -> Iterator[str]:
     """The lines of the dump of the steps of a script in numbers."""
     codes = codes_of(chip)
     texts = {name: code_of(len(codes) + place) for place, name in enumerate(TEXTS)}
-    times, said = times_of(run, script, by_ticks), words_by_line(chip, run)
-    said["line"] = dict(enumerate(["load", *(to_names.line_in_names(line, {}) for line in script)]))
+    times, said = times_of(run, script, by_ticks), texts_of(chip, run, script)
     yield from declarations(chip, codes, texts, times.parts)
     changes = unit_changes(chip, run, codes, times)
     yield from ("#0", "$dumpvars")
@@ -186,30 +204,47 @@ def dump(chip: Chip, run: steps.Steps, script: list[str], by_ticks: bool = False
     yield f"#{times.starts[-1]}"
 
 
-def options_of(words: Sequence[str]) -> tuple[bool, Optional[str], list[str]]:
-    """Whether time is by ticks, the file of the saved view if one is wanted, and the words behind."""
-    rest, by_ticks, view = list(words), False, None
-    while rest and rest[0] in ("--ticks", "--gtkw"):
-        if rest.pop(0) == "--ticks":
-            by_ticks = True
-        elif not rest:
-            raise BadUse(USAGE)
-        else:
-            view = rest.pop(0)
-    if len(rest) not in (3, 4) or rest[0] != "replay":
-        raise BadUse(USAGE)
-    return by_ticks, view, rest
+def kind_of(chip: Chip, unit: Unit) -> str:
+    """What a unit is."""
+    return chip.nodes[unit.number].kind if unit.kind == "node" else unit.kind
+
+
+def in_event(chip: Chip, event: Event) -> dict[str, Any]:
+    """An event as keys and values."""
+    unit, of_device = event.signal
+    state = None if event.value is None else values_of(chip, event.signal)[event.value]
+    about = {"of": "device" if of_device else "book", **findings.unit(kind_of(chip, unit), unit.number)}
+    return {"time": event.time, "line": event.line, **about, "value": event.value, "state": state}
+
+
+def in_json(chip: Chip, run: steps.Steps, script: list[str], by_ticks: bool) -> dict[str, Any]:
+    """What a dump has, as keys and values: the lines of the script with their times, and the events, all signals being 0 before."""
+    times, said = times_of(run, script, by_ticks), texts_of(chip, run, script)
+    lines = [
+        {"line": number, "time": start, "text": said["line"][number], "answers": said["answer"].get(number), "refused": said["refused"].get(number)}
+        for number, start in enumerate(times.starts[:-1])
+    ]
+    events = [in_event(chip, event) for event in sorted(events_of(run, times), key=lambda event: event.time)]
+    return {"timescale": TIMESCALES[times.parts], "end": times.starts[-1], "lines": lines, "events": events}
 
 
 def main(words: Sequence[str]) -> int:
     """Writes the dump of a replay."""
-    by_ticks, view, (_, obj, file, *topology) = options_of(words)
+    given, rest = options.taken(words, OPTIONS, USAGE)
+    if len(rest) not in (3, 4) or rest[0] != "replay":
+        raise BadUse(USAGE)
+    _, obj, file, *topology = rest
+    by_ticks = "--ticks" in given
     chip = chips.chosen(obj, objects.load(obj), topology).chip
     content = to_numbers.in_numbers(read_file(file), file)
     with tempfile.TemporaryDirectory() as room:
         run = steps.steps_of(steps.Run(obj, chip, room), content, file)
-    lines = list(dump(chip, run, steps.script_lines(content), by_ticks))
-    if view is not None:
-        saved_view.write(view, chip, run, times_of(run, steps.script_lines(content), by_ticks).starts[-1])
-    sys.stdout.writelines(line + "\n" for line in lines)
+    script = steps.script_lines(content)
+    if "--json" in given:
+        shown = [findings.whole("--vcd", 0, **in_json(chip, run, script, by_ticks))]
+    else:
+        shown = [line + "\n" for line in dump(chip, run, script, by_ticks)]
+    if "--gtkw" in given:
+        saved_view.write(given["--gtkw"], chip, run, times_of(run, script, by_ticks).starts[-1])
+    sys.stdout.writelines(shown)
     return 0

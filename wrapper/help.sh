@@ -15,7 +15,7 @@ usage: ./pmu replay OBJ SCRIPT   runs the script of the file SCRIPT over the con
        ./pmu --program           writes the path of the program that answers, which is made if there is none
        ./pmu --install PREFIX    puts the proved program, the library, its headers and manual pages below a folder
        ./pmu --uninstall PREFIX  removes what was put there
-       ./pmu --help, ./pmu -h    writes this help; behind the first word of a form, that of the form
+       ./pmu --help, ./pmu -h    writes this help; behind the first word of a form, that of the form with its options
        ./pmu --version, ./pmu -V    writes which version, toolchain and commit this is, and whether it is proved
 
 Views of what it reads and writes, in other ways:
@@ -25,16 +25,17 @@ Views of what it reads and writes, in other ways:
        ./pmu --svg replay OBJ SCRIPT    the waveform as a picture
        ./pmu --dot reach OBJ NODE       a graph, for Graphviz
        ./pmu from-c FILE.c              the object of the C file of the vendor's tools; with -o OBJ, as a file
-       ./pmu lint OBJ [SCRIPT]          what is passed over in them; --strict: exit 102 by a warning; --ignore CHECK, --json, --sarif
-       ./pmu policy [--repair] OBJ FILE    judges what each master can reach by the rules of a file; exit 101 if one is broken
+       ./pmu lint OBJ [SCRIPT]          what is passed over in them
+       ./pmu policy OBJ FILE            judges what each master can reach by the rules of a file; exit 101 if one is broken
        ./pmu diff OBJ SCRIPT NODE       a script with and without the messages of a master
        ./pmu compare OBJ OBJ            what two objects permit otherwise; exit 102 if anything
        ./pmu import LOG                 the calls of a board's log as a script, with the answers that the log has
        ./pmu test OBJ SCRIPT..          judges runs by what is expected in comments or SCRIPT.expect; exit 104 if one differs
        ./pmu dts OBJ TREE [TOPO]        what Linux asks for by a device tree, and what is refused; exit 102 if anything is
        ./pmu report OBJ [SCRIPT] -o FILE.html    a page of who can reach whom, the script's wave, and each line in names
-       ./pmu names [--json]             the names of nodes, reset lines, calls, clocks and words, with their numbers
+       ./pmu names                      the names of nodes, reset lines, calls, clocks and words, with their numbers
        the views of an object take a TOPO as one word more too, and tell which one it was over the board's reset lines
+       ./pmu FORM --help has the options of a view; most have --json (docs/JSON.md)
 docs/OBJECTS.md and docs/VIEWS.md explain them, and name the documents of the others. Nothing is proved of them.
 
 A file - is standard input. With -o FILE (--output FILE), anywhere among the words, what is written goes to FILE, which
@@ -59,19 +60,60 @@ Two examples:
 END_OF_HELP
 }
 
-# The lines of the help about the form that begins with this word, with its exits; nothing if there is no such form.
+# Of the forms the options, and what else is to be known: lines FORM OPTION, with what it does behind two spaces or more.
+options() {
+    cat <<'END_OF_OPTIONS'
+reach -  what a published reset line resets besides its one unit in the topology isn't in it: --names reach has that
+isolate -  what a published reset line resets besides its one unit in the topology isn't in it: --names isolate has that
+--names --json  writes the lines and their meanings as JSON: --names --json FORM..
+--names -  a script may have lines 'break N for K' and 'fail N once' too: outages of the device that end by themselves
+--numbers -  of a line 'break N for K' it writes the two lines of the program; 'fail N once' is refused
+--vcd --ticks  a second is a unit of the script's own time, and not a line
+--vcd --gtkw FILE  writes a saved view for GTKWave too, and files of the names of states beside it
+--vcd --json  writes the lines and events as JSON
+--svg --json  writes the rows of the picture as JSON
+--dot --all  each arrow has all its reasons, and not the first one alone
+--dot --json  writes the masters, frames and arrows as JSON
+lint --strict  ends with 102 if there is a warning
+lint --ignore CHECK  leaves a check out, or several with commas between them
+lint --json  writes the findings as JSON
+lint --sarif  writes the findings as SARIF 2.1.0
+policy --repair  tells the fewest records to change so that all rules hold
+policy --json  writes the rules, breaches and records as JSON; with --repair the changes
+policy --sarif  writes the breaches as SARIF 2.1.0; with --repair the changes as fixes
+diff --json  writes what differs as JSON
+compare --json  writes what differs as JSON
+test --all  tells all differences, and not the first of each script alone
+test --tap  writes in the Test Anything Protocol, a point for each script
+test --junit FILE  writes a file of JUnit too, with a case for each expectation
+test --json  writes each script with its expectations as JSON
+test --topology TOPO  runs over another topology
+dts --json  writes the devices, what they ask for and the answers as JSON
+dts --master NODE  judges the tree of another master than APU
+report --policy FILE  adds what the rules of a file find
+report --topology TOPO  judges over another topology
+names --json  writes the names as JSON
+END_OF_OPTIONS
+}
+
+# The lines of the help about the form that begins with this word, with its options and exits; nothing if there is no such form.
 help_of() {
-    help | awk -v form="$1" '
+    told=$(help | awk -v form="$1" '
         /^Two examples:/ { exit }
         /^(usage:|      ) \.\/pmu / {
             if ($1 == "usage:") sub(/^usage:/, "      ")
-            said = index($0 " ", " ./pmu " form " ") > 0
-            if (said) { print; found = 1 }
-            next
-        }
-        /^exit / && found { print ""; exits = 1 }
-        exits && !/^$/ { print }
-        /^$/ { exits = 0 }'
+            if (index($0 " ", " ./pmu " form " ")) print
+        }')
+    [ -n "$told" ] || return 0
+    printf '%s\n' "$told"
+    options | awk -v form="$1" '
+        $1 == form {
+            split(substr($0, length(form) + 2), part, "  ")
+            if (part[1] == "-") print "         " part[2]
+            else printf "         %-16s %s\n", part[1], part[2]
+        }'
+    echo
+    help | awk '/^exit / { exits = 1 } /^$/ { exits = 0 } exits'
 }
 
 # The version of the headers, as MAJOR.MINOR.PATCH.

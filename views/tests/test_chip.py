@@ -107,7 +107,10 @@ class Chip(Case):
         path = self.object_of(BY_LINE.format(line=1113))
         shown = self.text("--names", "reach", path, "APU").splitlines()
         self.assertNotIn("master 7", "".join(line for line in shown if not line.startswith("#")))
-        self.assertIn("# master 7 reset 1 7  # RPU_0: APU may reset a processor of it", shown)
+        said = "# master 7 reset 1 7  # RPU_0: APU may reset a processor of it"
+        self.assertIn(said, shown)
+        script = self.file("reset.script", "boot 7 0\nipi 1 17 1113 2\n")
+        self.assertIn(said, self.text("--names", "isolate", path, script, "APU").splitlines())
 
     def test_what_a_reset_of_several_units_does_on_the_chip_is_said_of_its_answer(self):
         path = self.object_of(BY_LINE.format(line=1113))

@@ -8,6 +8,7 @@ import unittest
 import urllib.parse
 
 import names
+import picture
 from program import read_file
 from common import TOP, Case, example, program, view
 
@@ -148,12 +149,75 @@ class Robots(Case):
         self.assertEqual({it["by"] for it in both["reaches"] if f"{'-+'[it['by'] == 'second']} {it['kind']}" not in lines}, set())
         self.assertIn({"by": "first", "masters": ["APU", "RPU_0", "RPU_1"], "may": "reset line RESET_PS_PL3"}, both["not_judged"])
 
+    def test_a_script_without_the_messages_of_a_master(self):
+        script = self.file("loose.script", "ipi 1 21\nboot 7 0\nfail 39 once\nipi 1 13 39 1 0 2\nipi 7 13 39 1 0 2\nsmc 2 0x84000003 1 0\n")
+        found = self.parsed("diff", "--json", LABORATORY, script, "APU")
+        self.assertEqual((found["master"], found["messages"], found["power_calls"]), ("APU", 2, 1))
+        rows = {line["line"]: line["rows"] for line in found["lines"]}
+        unit = {"kind": "slave", "number": 39, "name": "SD_0"}
+        self.assertIn({"of": "book", **unit, "own": False, "with": "off -> on", "without": None, "lost": None}, rows[4])
+        self.assertIn({"of": "device", **unit, "own": False, "with": "off -> on refused", "without": None, "lost": None}, rows[4])
+        answer = {"of": "answer", "kind": "master", "number": 7, "name": "RPU_0", "own": False}
+        self.assertIn({**answer, "with": "2007 node used by APU", "without": "0 success", "lost": "denied"}, rows[5])
+        start = {"of": "start", "kind": "processor", "number": 3, "name": "APU_1", "own": True}
+        self.assertIn({**start, "with": "starts at 0x0", "without": None, "lost": None}, rows[6])
+        shown = self.text("diff", LABORATORY, script, "APU")
+        self.assertEqual(sum(map(len, rows.values())), sum(" | " in line for line in shown.splitlines()[1:]))
+
+    def test_the_events_of_a_dump(self):
+        script = self.file("loose.script", "ipi 1 21\nfail 33 once\nipi 1 13 33 1 0 2\nipi 1 17 33 2\n")
+        found = self.parsed("--vcd", "--json", "replay", LABORATORY, script)
+        dump = picture.read(self.text("--vcd", "replay", LABORATORY, script))
+        times = [it["time"] for it in found["lines"]]
+        self.assertEqual((found["timescale"], found["end"], times), ("1 ms", 5000, [0, 1000, 2000, 3000, 4000]))
+        unit = {"kind": "slave", "number": 33, "name": "UART_0"}
+        of_unit = [it for it in found["events"] if (it["kind"], it["number"]) == ("slave", 33) and it["line"] > 2]
+        told = [(it["time"], it["of"], it["value"], it["state"]) for it in of_unit]
+        self.assertEqual(told, [(3000, "book", 1, "on"), (3001, "device", None, None), (3002, "device", 0, "off"), (4001, "device", 1, "on")])
+        self.assertEqual({key: of_unit[0][key] for key in unit}, unit)
+        pulse = [(it["of"], it["value"]) for it in found["events"] if it["kind"] == "line"]
+        self.assertEqual(pulse, [("device", 1), ("device", 0)])
+        self.assertEqual((found["lines"][3]["answers"], found["lines"][3]["refused"]), ("APU: internal", "UART_0 on"))
+        changes = sum(len([it for it in signal.changes if it[0]]) for signal in dump.signals if signal.width)
+        self.assertEqual(len([it for it in found["events"] if it["time"]]), changes)
+        self.assertEqual(self.parsed("--vcd", "--ticks", "--json", "replay", LABORATORY, script)["lines"][-1]["line"], 4)
+
+    def test_the_rows_of_a_picture(self):
+        script = self.file("loose.script", "ipi 1 21\nfail 33 once\nipi 1 13 33 1 0 2\nipi 1 17 33 2\n")
+        found = self.parsed("--svg", "--json", "replay", LABORATORY, script)
+        self.assertEqual(found["lines"][2], {"line": 2, "text": "fail UART_0 once"})
+        rows = {(it["of"], it["kind"], it["number"]): it for it in found["rows"]}
+        spans = [{"from": 0, "until": 1, "state": "on"}, {"from": 1, "until": 4, "state": "off"}, {"from": 4, "until": 5, "state": "on"}]
+        self.assertEqual((rows["device", "slave", 33]["spans"], rows["device", "slave", 33]["refused"]), (spans, [3]))
+        self.assertEqual(rows["device", "line", 33]["pulses"], [4])
+        drawn = self.text("--svg", "replay", LABORATORY, script)
+        self.assertEqual(len(found["rows"]), drawn.count('<text class="name"'))
+
+    def test_the_arrows_of_a_graph(self):
+        for words in (["--dot", "reach", LABORATORY, "RPU_0"], ["--dot", "--all", "reach", LABORATORY, "RPU_0"], ["--dot", "reach", MADE, "APU"]):
+            status, output, _ = view(*words)
+            found = self.parsed(words[0], "--json", *words[1:])
+            boxes = re.findall(r"(?m)^  master_(\d+) -> (\w+) \[label=\"([^\"]*)\"", output.decode())
+            arrows = {(it["from"], ", ".join(it["why"])) for it in found["arrows"]}
+            self.assertEqual((status, arrows), (0, {(names.node_name(int(start)), why) for start, _, why in boxes}))
+            self.assertEqual([it["name"] for it in found["masters"] if it["in_reach"]], [it["name"] for it in found["masters"]])
+            framed = {it["name"]: it["in"] for it in found["frames"]}
+            self.assertEqual((framed["FPD"], framed["APU_0"], framed["OCM_BANK_0"]), (None, "APU", "LPD"))
+        to = {"kind": "line", "number": 1054, "name": "RESET_RPU_R50"}
+        self.assertIn({"from": "APU", "to": to, "why": ["reset"]}, found["arrows"])
+
     def test_a_fault_writes_no_json(self):
         bad = self.file("bad.script", "ipi 1 21\nbot 7\n")
-        for words in (["--names", "--json", "replay", LABORATORY, bad], ["--names", "--json", "isolate", LABORATORY, bad, "APU"]):
+        for words in (["--names", "--json", "replay", LABORATORY, bad], ["diff", "--json", LABORATORY, bad, "APU"], ["--vcd", "--json", "replay", LABORATORY, bad], ["--svg", "--json", "replay", LABORATORY, bad]):
             status, output, errors = view(*words)
             self.assertEqual((status, output, len(errors.splitlines())), (3, b"", 1), words)
         self.assertEqual(view("policy", "--json", "--sarif", LABORATORY, APART)[:2], (125, b""))
+
+    def test_the_page_names_each_view_with_json(self):
+        with open(os.path.join(TOP, "docs", "JSON.md"), encoding="utf-8") as file:
+            page = file.read().partition("## The views")[2]
+        named = set(re.findall(r"(?m)^- `(?:\./pmu )?(--?[a-z]+|[a-z]+)", page))
+        self.assertEqual(named, {"--names", "names", "lint", "policy", "diff", "compare", "test", "dts", "--vcd", "--svg", "--dot"})
 
 
 if __name__ == "__main__":

@@ -1,4 +1,5 @@
 """The words that the wrapper takes: its options, in each place, help, the version and the program's path."""
+import importlib
 import os
 import shutil
 import subprocess
@@ -71,6 +72,17 @@ class Help(Named):
                     self.assertTrue(first.startswith(f"       ./pmu {form}"), out)
                     self.assertEqual([line for line in others if "./pmu" in line], [])
                     self.assertIn("exit   0 all was written", out.decode())
+
+    def test_the_help_of_a_view_has_its_options(self):
+        words = {"--vcd": "waveform", "--svg": "picture", "--dot": "graph", "policy": "policy", "diff": "diff", "compare": "compare", "test": "testing", "report": "report"}
+        wanted = {form: importlib.import_module(name).OPTIONS for form, name in words.items()}
+        wanted.update({"--names": ["--json"], "names": ["--json"], "lint": ["--strict", "--ignore", "--json", "--sarif"], "dts": ["--json", "--master"], "import": [], "from-c": [], "replay": []})
+        for form, known in wanted.items():
+            lines = self.call(form, "--help")[1].decode().splitlines()
+            told = [line.split()[0] for line in lines if line.startswith(" " * 9 + "--")]
+            self.assertEqual(sorted(told), sorted(known), form)
+        for form in ("reach", "isolate"):
+            self.assertIn(f"isn't in it: --names {form} has that", self.call(form, "--help")[1].decode())
 
     def test_the_whole_help(self):
         status, out, said = self.call("--help")
