@@ -89,6 +89,9 @@ static inline const char *pmu_strerror(uint32_t answer)
     }
 }
 
+/* The version of the library that was linked or loaded, as PMU_VERSION says that of the header. */
+uint32_t pmu_version(void);
+
 /* ---- A whole run ------------------------------------------------------------------------------------------------ */
 
 /* Runs a script over a configuration object, the topology of the chip and a new device in memory, as `pmu replay

@@ -32,7 +32,7 @@ from pmu_told import ReadFault, Reply, Start, Status, Step, TooLarge
 __all__ = [
     "Answer", "BadLine", "BadObject", "Callback", "Closed", "Command", "CommandLeft", "Controller", "Device", "Drop", "Event",
     "Handle", "ModelDevice", "NoCommand", "NoLibrary", "NoMemory", "NoNode", "NoRoom", "NodeStatus", "NotDone", "OutOfRange",
-    "Outcome", "PmuError", "ReadFault", "Reply", "Start", "Status", "Step", "TooLarge", "load", "replay",
+    "Outcome", "PmuError", "ReadFault", "Reply", "Start", "Status", "Step", "TooLarge", "load", "replay", "version",
 ]  # fmt: skip
 
 WORD, LONG_WORD = 2**32 - 1, 2**64 - 1
@@ -68,6 +68,12 @@ def _told(write: Callable[[Any, int, Any], int], room: Optional[int], first: int
     if answer != Status.DONE:
         raise error_of(answer, text)
     return text
+
+
+def version(library: Optional[ctypes.CDLL] = None) -> int:
+    """The version of the library, as PMU_VERSION says that of a header (pmu_version): 100 is 0.1.0."""
+    found: int = (library or loaded()).pmu_version()
+    return found
 
 
 def replay(obj: bytes, script: bytes, room: Optional[int] = None, library: Optional[ctypes.CDLL] = None) -> str:
@@ -168,7 +174,7 @@ class Handle:
         return settled.value
 
     def text(self, number: int, room: Optional[int] = None) -> str:
-        """The lines of the last step, each after this number (pmu_text). With `room` NoRoom is raised if they have more bytes."""
+        """The lines of the last step, each after this number (pmu_text). With `room` NoRoom is raised if they are longer."""
         return _told(lambda *buffer: self._call("pmu_text", _word(number), *buffer), room, 4096)
 
     def value(self, node: int) -> int:

@@ -9,6 +9,8 @@ from typing import Any, Optional
 from pmu_told import NoLibrary
 
 SHARED_OBJECT = "libpmu.so.0.1"
+# The versions of the interface that this binding is for: of 0.1.
+VERSIONS = range(100, 200)
 
 
 class HandleWords(ctypes.Structure):
@@ -55,7 +57,7 @@ _CALLS: dict[str, list[Any]] = {
 
 
 def load(path: Optional[str] = None) -> ctypes.CDLL:
-    """The shared object of this path, or the one that pmu.py says. NoLibrary if it isn't there or lacks a function."""
+    """The shared object of this path, or the one that pmu.py says. NoLibrary if it isn't there or is another."""
     installed = os.path.join(os.path.dirname(os.path.realpath(__file__)), "..", "..", SHARED_OBJECT)
     name = path or os.environ.get("PMU_SHARED_OBJECT") or (installed if os.path.exists(installed) else SHARED_OBJECT)
     try:
@@ -63,10 +65,14 @@ def load(path: Optional[str] = None) -> ctypes.CDLL:
         for call, words in _CALLS.items():
             function = getattr(library, call)
             function.argtypes, function.restype = words, _U32
+        library.pmu_version.argtypes, library.pmu_version.restype = [], _U32
         library.pmu_end.argtypes, library.pmu_end.restype = [HandleWords], None
         library.rattle_dealloc.argtypes, library.rattle_dealloc.restype = [ctypes.c_void_p], None
     except (OSError, AttributeError) as fault:
         raise NoLibrary(str(fault)) from fault
+    if library.pmu_version() not in VERSIONS:
+        wanted = f"{VERSIONS[0]} to {VERSIONS[-1]}"
+        raise NoLibrary(f"{name} has the interface {library.pmu_version()}, and this binding is for {wanted}")
     return library
 
 

@@ -100,7 +100,7 @@ class Closed(NotDone):
 
 
 class NoLibrary(PmuError):
-    """There is no shared object of the library, or it lacks a function."""
+    """There is no shared object of the library, or it has another interface."""
 
 
 class OutOfRange(PmuError, ValueError):

@@ -74,12 +74,13 @@ def texts(controller: Controller, events: list[tuple[Any, ...]]) -> str:
 
 def all_reads(handle: Handle) -> list[Any]:
     """All that is read of a controller."""
-    found: list[Any] = [handle.is_settled(), handle.is_beyond(RPU_0, APU, REQUEST_NODE, UART_0), handle.node_status(APU, UART_0)]
+    found: list[Any] = [handle.is_settled(), handle.node_status(APU, UART_0)]
+    found += [handle.is_beyond(RPU_0, APU, REQUEST_NODE, UART_0)]
     return found + [handle.value(node) for node in range(1, 70)] + [handle.mode(proc) for proc in (2, 3, 4, 5, 7, 8)]
 
 
 class Refusing:
-    """The library, of which one call in all, that of this number, answers that memory is wanted. It has the names of its calls."""
+    """The library, whose call of this number answers that memory is wanted. It has the names of all calls."""
 
     def __init__(self, refused: int = 0) -> None:
         self.library, self.refused, self.names = pmu_library.loaded(), refused, list[str]()
@@ -128,7 +129,8 @@ class Steps(unittest.TestCase):
         reply, late, drop = Reply(APU, 0, (0, 1, 0)), Reply(RPU_0, 0, (0, 0, 0)), Drop(APU)
         acknowledged, notified = Callback(APU, 31, (33, 0, 1, 0)), Callback(APU, 32, (33, 1, 1, 0))
         rows: list[Any] = [((late, notified, reply), reply), ((reply, acknowledged), acknowledged), ((drop,), drop)]
-        rows += [((late,), None), ((Callback(RPU_0, 31, (33, 0, 1, 0)),), None), ((notified,), None), ((), None), ((Start(2, 0),), None)]
+        of_another = Callback(RPU_0, 31, (33, 0, 1, 0))
+        rows += [((late,), None), ((of_another,), None), ((notified,), None), ((), None), ((Start(2, 0),), None)]
         for events, wanted in rows:
             self.assertEqual(pmu_told.answer_in(events, APU), wanted, events)
 
@@ -356,8 +358,8 @@ class Interface(unittest.TestCase):
         text = re.sub(r"/\*.*?\*/", "", self.header, flags=re.S)
         declared = re.findall(r"^(?:static inline )?(?:uint32_t|void|const char \*) ?(pmu_\w+)\(([^)]*)\)", text, re.M)
         counts = {name: words.count(",") + 1 for name, words in declared}
-        inline = {"pmu_close", "pmu_strerror"}
-        self.assertEqual(set(counts) - inline, set(pmu_library._CALLS) | {"pmu_end"})
+        others = {"pmu_close", "pmu_strerror", "pmu_end", "pmu_version"}
+        self.assertEqual(set(counts) - others, set(pmu_library._CALLS))
         for name, words in pmu_library._CALLS.items():
             self.assertEqual(len(words), counts[name], name)
 
@@ -372,6 +374,15 @@ class Interface(unittest.TestCase):
             self.assertEqual((type(error).__name__, error.status, said), (named, status, told[status.name]))
         unknown = pmu_told.error_of(77)
         self.assertEqual((type(unknown), unknown.status, str(unknown)), (pmu.NotDone, 77, "an unknown answer: 77"))
+
+    def test_the_version(self) -> None:
+        parts = [int(number) for number in re.findall(r"#define PMU_VERSION_\w+ (\d+)", self.header)]
+        self.assertEqual(pmu.version(), parts[0] * 10000 + parts[1] * 100 + parts[2])
+        interface = parts[:2] if parts[0] == 0 else parts[:1]
+        self.assertEqual(pmu_library.SHARED_OBJECT, ".".join(["libpmu.so", *map(str, interface)]))
+        self.assertIn(pmu.version(), pmu_library.VERSIONS)
+        with unittest.mock.patch("pmu_library.VERSIONS", range(200, 300)):
+            self.assertRaisesRegex(pmu.NoLibrary, " 100, .* 200 to 299", pmu.load)
 
     def test_a_library_that_is_none(self) -> None:
         self.assertRaises(pmu.NoLibrary, pmu.load, "/no/such/libpmu.so")

@@ -82,8 +82,8 @@ static struct pmu *loaded(void)
     return pmu;
 }
 
-/* Each answer has its text, and each text is of one answer. */
-static void texts_of_answers(void)
+/* The library is that of the header; each answer has its text, and each text is of one answer. */
+static void version_and_texts(void)
 {
     static const uint32_t answers[] = {PMU_DONE,     PMU_BAD_OBJECT, PMU_BAD_LINE,     PMU_READ_FAULT, PMU_NO_ROOM, PMU_NO_MEMORY,
                                        PMU_TOO_LARGE, PMU_COMMAND_LEFT, PMU_NO_COMMAND, PMU_NO_NODE,    PMU_CLOSED};
@@ -97,6 +97,7 @@ static void texts_of_answers(void)
         for (unsigned j = 0; j < k; j++)
             check("two answers have one text", strcmp(pmu_strerror(answers[k]), pmu_strerror(answers[j])) == 0, 0);
     check("a text", strcmp(pmu_strerror(PMU_NO_ROOM), "the text doesn't fit the buffer"), 0);
+    check("the version", pmu_version(), PMU_VERSION);
     check("an unknown answer", strcmp(pmu_strerror(UINT32_MAX), "an unknown answer"), 0);
 }
 
@@ -307,7 +308,7 @@ int main(int count, char **words)
         return 1;
     }
     object = read_file(words[1], &object_size);
-    texts_of_answers();
+    version_and_texts();
     calls_out_of_order();
     numbers_of_nothing();
     too_little_room();

@@ -6,6 +6,11 @@
 
 static bool waits;
 
+uint32_t pmu_version(void)
+{
+    return PMU_VERSION;
+}
+
 uint32_t pmu_open(const uint8_t *object, size_t object_size, struct pmu **handle)
 {
     (void)object;

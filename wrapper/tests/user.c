@@ -15,7 +15,7 @@ int main(void)
     size_t written = 0;
     struct pmu *pmu = NULL;
     struct pmu_command command;
-    if (pmu_open(object, sizeof object, &pmu) != PMU_DONE)
+    if (pmu_version() != PMU_VERSION || pmu_open(object, sizeof object, &pmu) != PMU_DONE)
         return 1;
     while (pmu_next(pmu, &command) == PMU_DONE)
         pmu_done(pmu, true);

@@ -10,4 +10,5 @@ mod held_reads;
 pub mod reading;
 pub mod running;
 mod telling;
+pub mod version;
 mod whole_run;
