@@ -1,11 +1,10 @@
 -- The border of the reach of a master: what its messages can't change, neither by themselves nor through other masters.
-use Rattle.std.specs.Prelude.{◌≡◌, ℕ, Bool, true, false, not, ◌<◌, ◌&&◌, ◌==◌, nat_lt, ◌↔◌, length, position, slice_get, Option, Some, None, List, [], ◌∷◌}
+use Rattle.std.specs.Prelude.{◌≡◌, ℕ, Bool, true, false, not, ◌<◌, ◌&&◌, nat_lt, ◌↔◌, length, slice_get, Option, Some, None, List, [], ◌∷◌}
 use Rattle.std.specs.Option.{option_map}
 use Rattle.pm_base.specs.declared.names.LineId.{LineId}
 use Rattle.pm_base.specs.declared.names.NodeId.{NodeId}
 use Rattle.pm_base.specs.declared.names.Unit.{Unit}
 use Rattle.pm_base.specs.declared.names.Unit.TheVariants.{Node, Line}
-use Rattle.pm_object.specs.declared.object.MasterRec.{MasterRec}
 use Rattle.pm_object.specs.declared.object.Object.{Object}
 use Rattle.pm_topology.specs.declared.topology.LineDef.{LineDef}
 use Rattle.pm_topology.specs.declared.topology.PowerDef.{PowerDef}
@@ -13,6 +12,7 @@ use Rattle.pm_topology.specs.declared.topology.SlaveDef.{SlaveDef}
 use Rattle.pm_topology.specs.declared.topology.Topology.{Topology}
 use Rattle.pm_perms.specs.Several.{masters_of}
 use Rattle.pm_grants.specs.Grants.{permits_use}
+use Rattle.pm_grants.specs.Laws.{master_place}
 use Rattle.pm_grants.specs.Several.{all_grants, some_permits}
 use Rattle.pm_reach.specs.declared.members.MemberKind.{MemberKind}
 use Rattle.pm_reach.specs.declared.members.MemberKind.TheVariants as members
@@ -23,7 +23,7 @@ use Rattle.pm_laws.specs.Border.{Border, IsBeyond, node_beyond}
 
 -- the place of a configured master
 abbrev pub place_of : Object → NodeId → Option ℕ
-place_of object m = position (λ (r : MasterRec). r.node == m.0) object.masters
+place_of object m = master_place object.masters m
 
 -- a path leads from the master at a place to another one: none does where the master isn't configured
 abbrev pub reaches : List Object → Topology → Option ℕ → ℕ → Bool
