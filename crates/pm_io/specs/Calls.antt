@@ -47,18 +47,18 @@ mended (Begin name (Some id)) = Begin name (Some id)
 mended (Read id None) = Read id (Some [])
 mended (Read id (Some bytes)) = Read id (Some bytes)
 
-abbrev pub HasFailed : Call → Type 0
-HasFailed (Begin name None) = ⊤
-HasFailed (Begin name (Some id)) = ⊥
-HasFailed (Read id None) = ⊤
-HasFailed (Read id (Some bytes)) = ⊥
+abbrev pub IsFailure : Call → Type 0
+IsFailure (Begin name None) = ⊤
+IsFailure (Begin name (Some id)) = ⊥
+IsFailure (Read id None) = ⊤
+IsFailure (Read id (Some bytes)) = ⊥
 
 -- the same, broken off by a call that failed, which is the last one
 pub record ReadsToFault (names : List Named) (calls : List Call) : Type 0 where
   pub front : List Call
   pub last : Call
   pub is : calls ≡ front ++ last ∷ []
-  pub failed : HasFailed last
+  pub failed : IsFailure last
   pub on : ReadsOn names (front ++ mended last ∷ [])
 
 -- the names that were begun

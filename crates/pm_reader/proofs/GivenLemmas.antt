@@ -16,7 +16,7 @@ use Rattle.pm_script.specs.Script.{ending_of, script_limit}
 use Rattle.pm_reader.specs.declared.reader.Taken.{Taken}
 use Rattle.pm_reader.specs.declared.reader.Taken.TheVariants.{Fault}
 use Rattle.pm_reader.specs.Reader.{GaveOn, Gives, Grew, Grows, Held, NeedsMore, Turn, within, within_limit}
-use Rattle.pm_reader.specs.Way.{GoesOn, MayGoOn}
+use Rattle.pm_reader.specs.Way.{HoldsHowever, MayGoOn}
 use Rattle.pm_reader.specs.Window.{Filled}
 use Rattle.pm_reader.proofs.TookLemmas.{Took-refl, Took-trans}
 
@@ -186,7 +186,7 @@ module _ (held : Held) (taken : List ℕ) (credit : held.credit + length taken �
       by_credit (suc n) is = by_end (omega (arith, is)) held.ended refl
 
 -- what goes on however the input does holds of what the calls gave
-pub given_text : (S : List ℕ → List ℕ → Ending → Type 0) (id : ℕ) (held : Held) (taken : List ℕ) (calls : List Call) → held.credit + length taken ≡ script_limit + 1 → GoesOn S held taken → Gave id taken held.ended calls → S (text_of (prefix_given script_limit id calls)) (within held ++ []) (ending_of (stop_after script_limit id calls))
+pub given_text : (S : List ℕ → List ℕ → Ending → Type 0) (id : ℕ) (held : Held) (taken : List ℕ) (calls : List Call) → held.credit + length taken ≡ script_limit + 1 → HoldsHowever S held taken → Gave id taken held.ended calls → S (text_of (prefix_given script_limit id calls)) (within held ++ []) (ending_of (stop_after script_limit id calls))
 given_text S id held taken calls credit so_far gave =
     let stop : StopReason = stop_by held.ended script_limit taken in
     let c : Closes held taken credit stop = closes held taken credit in

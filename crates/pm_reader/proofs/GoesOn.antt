@@ -9,7 +9,7 @@ use Rattle.pm_io.specs.declared.lines.Ending.TheVariants.{Whole}
 use Rattle.pm_io.proofs.LinesLemmas.{line_by_feed, last_line, no_line}
 use Rattle.pm_reader.specs.declared.reader.Taken.TheVariants.{Line}
 use Rattle.pm_reader.specs.Reader.{Held, GaveByFeed, GaveLast, Gives, Grows, is_feed, within, within_limit}
-use Rattle.pm_reader.specs.Way.{GoesOn, MayGoOn}
+use Rattle.pm_reader.specs.Way.{HoldsHowever, MayGoOn}
 use Rattle.pm_reader.proofs.HeldLemmas.{position_front, within_all}
 
 -- ---- bytes were read
@@ -27,7 +27,7 @@ module _ (R : List ℕ → List ℕ → Ending → Type 0) where
   moved : (a b c d : List ℕ) (ending : Ending) → a ≡ b → c ≡ d → R a c ending → R b d ending
   moved a b c d ending one two holds = subst (λ (x : List ℕ). R x d ending) one (subst (λ (y : List ℕ). R a y ending) two holds)
 
-  read_on : (held new : Held) (taken got : List ℕ) → GoesOn R held taken → Grows held got new → 0 < new.credit → GoesOn R new (taken ++ got)
+  read_on : (held new : Held) (taken got : List ℕ) → HoldsHowever R held taken → Grows held got new → 0 < new.credit → HoldsHowever R new (taken ++ got)
   read_on held new taken got so_far grows some more ending on =
       let credit = grows.credit in
       let before : MayGoOn held (got ++ more) ending = record {
@@ -45,7 +45,7 @@ module _ (R : List ℕ → List ℕ → Ending → Type 0) where
       moved (within_limit held.credit taken ++ (got ++ more)) (within_limit new.credit (taken ++ got) ++ more) (within held ++ (got ++ more)) (within new ++ more) ending a b (so_far (got ++ more) ending before)
 
   -- nothing was read past the limit
-  read_none : (held new : Held) (taken : List ℕ) → GoesOn R held taken → Grows held [] new → new.credit ≡ 0 → GoesOn R new (taken ++ [])
+  read_none : (held new : Held) (taken : List ℕ) → HoldsHowever R held taken → Grows held [] new → new.credit ≡ 0 → HoldsHowever R new (taken ++ [])
   read_none held new taken so_far grows none more ending on =
       let same : held.credit ≡ new.credit = omega (arith, grows.credit) in
       let before : MayGoOn held more ending = record {
@@ -62,7 +62,7 @@ module _ (R : List ℕ → List ℕ → Ending → Type 0) where
       moved (within_limit held.credit taken ++ more) (within_limit new.credit (taken ++ []) ++ more) (within held ++ more) (within new ++ more) ending a b (so_far more ending before)
 
   -- the last byte that was read is past the limit
-  read_past : (held new : Held) (taken got : List ℕ) → GoesOn R held taken → Grows held got new → new.credit ≡ 0 → 0 < length got → GoesOn R new (taken ++ got)
+  read_past : (held new : Held) (taken got : List ℕ) → HoldsHowever R held taken → Grows held got new → new.credit ≡ 0 → 0 < length got → HoldsHowever R new (taken ++ got)
   read_past held new taken got so_far grows none some more ending on =
       let front : List ℕ = take (length got - 1) got in
       let left : 0 < held.credit = omega (arith, grows.credit, some) in
@@ -82,14 +82,14 @@ module _ (R : List ℕ → List ℕ → Ending → Type 0) where
       in
       moved (within_limit held.credit taken ++ (front ++ more)) (within_limit new.credit (taken ++ got) ++ more) (within held ++ (front ++ more)) (within new ++ more) ending a b (so_far (front ++ more) ending before)
 
-  pub goes_on_read : (held new : Held) (taken got : List ℕ) → GoesOn R held taken → Grows held got new → GoesOn R new (taken ++ got)
+  pub goes_on_read : (held new : Held) (taken got : List ℕ) → HoldsHowever R held taken → Grows held got new → HoldsHowever R new (taken ++ got)
   goes_on_read held new taken got so_far grows = by_credit new.credit refl
     where
-      by_got : (g : List ℕ) → Grows held g new → new.credit ≡ 0 → GoesOn R new (taken ++ g)
+      by_got : (g : List ℕ) → Grows held g new → new.credit ≡ 0 → HoldsHowever R new (taken ++ g)
       by_got [] grows none = read_none held new taken so_far grows none
       by_got (x ∷ xs) grows none = read_past held new taken (x ∷ xs) so_far grows none (omega arith)
 
-      by_credit : (n : ℕ) → new.credit ≡ n → GoesOn R new (taken ++ got)
+      by_credit : (n : ℕ) → new.credit ≡ n → HoldsHowever R new (taken ++ got)
       by_credit zero is = by_got got grows is
       by_credit (suc n) is = read_on held new taken got so_far grows (omega (arith, is))
 
@@ -158,7 +158,7 @@ same_credit : (held new : Held) (line : List ℕ) → Gives held Line line new �
 same_credit held new line (inl gave) = gave.credit
 same_credit held new line (inr gave) = ap (λ (h : Held). h.credit) gave.new_is
 
-pub goes_on_line : (R S : List ℕ → List ℕ → Ending → Type 0) (held new : Held) (taken line : List ℕ) → ((all left later : List ℕ) (ending : Ending) → lines ending left ≡ line ∷ lines ending later → R all left ending → S all later ending) → GoesOn R held taken → Gives held Line line new → GoesOn S new taken
+pub goes_on_line : (R S : List ℕ → List ℕ → Ending → Type 0) (held new : Held) (taken line : List ℕ) → ((all left later : List ℕ) (ending : Ending) → lines ending left ≡ line ∷ lines ending later → R all left ending → S all later ending) → HoldsHowever R held taken → Gives held Line line new → HoldsHowever S new taken
 goes_on_line R S held new taken line step so_far gives more ending on =
     let first = first_given held new line more ending gives on in
     let all : within_limit held.credit taken ++ more ≡ within_limit new.credit taken ++ more = ap (λ (n : ℕ). within_limit n taken ++ more) (sym (same_credit held new line gives)) in

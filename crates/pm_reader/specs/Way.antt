@@ -18,8 +18,8 @@ pub record MayGoOn (held : Held) (more : List ℕ) (ending : Ending) : Type 0 wh
   pub over : held.credit ≡ 0 → (more ≡ []) × (ending ≡ Cut)
 
 -- something holds of all bytes of the lines and of those that are held, however the input goes on
-abbrev pub GoesOn : (List ℕ → List ℕ → Ending → Type 0) → Held → List ℕ → Type 0
-GoesOn R held taken = (more : List ℕ) (ending : Ending) → MayGoOn held more ending → R (within_limit held.credit taken ++ more) (within held ++ more) ending
+abbrev pub HoldsHowever : (List ℕ → List ℕ → Ending → Type 0) → Held → List ℕ → Type 0
+HoldsHowever R held taken = (more : List ℕ) (ending : Ending) → MayGoOn held more ending → R (within_limit held.credit taken ++ more) (within held ++ more) ending
 
 -- how far the lines of an input were taken: so many were, and this holds of all lines and those that are held
 pub record Way (S : List ℕ → List ℕ → Ending → Type 0) (shown : Type 0) (id n : ℕ) (first now : Moment) (held : Held) : Type 0 where
@@ -27,7 +27,7 @@ pub record Way (S : List ℕ → List ℕ → Ending → Type 0) (shown : Type 0
   pub took : Took shown id taken first now
   pub gave : Meanwhile first now (Gave id taken held.ended)
   pub credit : held.credit + length taken ≡ script_limit + 1
-  pub goes_on : GoesOn S held taken
+  pub goes_on : HoldsHowever S held taken
   pub count : n + length held.bytes ≤ length taken
 
 -- so many lines were taken, of which this holds, and the reader gave an answer after them that isn't followed yet
