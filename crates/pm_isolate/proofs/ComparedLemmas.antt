@@ -25,7 +25,7 @@ use Rattle.pm_run.specs.Run.{Setup, setup_for}
 use Rattle.pm_script.specs.declared.meaning.LineFault.{LineFault}
 use Rattle.pm_script.specs.Named.{IsHeldWhole, script_in}
 use Rattle.pm_script.specs.Script.{Script, Stop, stop_of}
-use Rattle.pm_script.specs.Script.Stop.{Bad}
+use Rattle.pm_script.specs.Script.Stop.{Bad, End as AtEnd}
 use Rattle.pm_trace.specs.declared.faults.Fault.{Fault}
 use Rattle.pm_trace.specs.declared.faults.Fault.TheVariants.{Line, Memory, Read}
 use Rattle.pm_trace.specs.Exits.{IsWhole}
@@ -101,7 +101,7 @@ module _ {I O : Type 0} (i : Inputs.Ghosts I) (o : Sink.Ghosts O) (object : Obje
   compare_unbegun none rose reports = compare_refused Read (record { script = scripts.asked_unbegun i name old new result none rose; reach = tt }) reports
 
   -- a script was read, and this is written of it and of the reach of the master
-  pub compare_ran : (s : Script) (members : List Member) → (i.observable → script_in (i.state old) name ≡ Some s) → (result ≡ exit.ReadFault → Rose (i.state old).faults (i.state new).faults) → IsReach (objects_in object (attached_by s.events)) t m members → Reports o (isolate_report (setup_for object t s.events) m members (ran s)) sink sink' result → Compared i o object t m name old new sink sink' result
+  abbrev pub compare_ran : (s : Script) (members : List Member) → (i.observable → script_in (i.state old) name ≡ Some s) → (result ≡ exit.ReadFault → Rose (i.state old).faults (i.state new).faults) → IsReach (objects_in object (attached_by s.events)) t m members → Reports o (isolate_report (setup_for object t s.events) m members (ran s)) sink sink' result → Compared i o object t m name old new sink sink' result
   compare_ran s members read fails reach reports = record {
     job = Ok (record { members = members; script = s });
     answers = [];
@@ -111,6 +111,11 @@ module _ {I O : Type 0} (i : Inputs.Ghosts I) (o : Sink.Ghosts O) (object : Obje
     ends = reports.ends;
     touched = tt;
   }
+
+  -- where it is done the script came to its end
+  pub compare_ended : (s : Script) (members : List Member) → (i.observable → script_in (i.state old) name ≡ Some s) → (result ≡ exit.ReadFault → Rose (i.state old).faults (i.state new).faults) → IsReach (objects_in object (attached_by s.events)) t m members → Reports o (isolate_report (setup_for object t s.events) m members (ran s)) sink sink' result → i.observable → result ≡ exit.Done → s.stop ≡ AtEnd
+  compare_ended s members read fails reach reports seen done =
+      (scripts.held_whole i o script_of_job (comparison_report object t m) (of_script object t m) name old new sink sink' result (IsComparisonOf i object t m name old new result) script_asked TouchesNothing (compare_ran s members read fails reach reports) s refl seen done).0
 
 -- ---- what is prepared
 

@@ -10,3 +10,4 @@ pub mod ReportLemmas
 pub mod StandLemmas
 pub mod TurnsLaw
 pub mod WithinLaw
+pub mod GivenLemmas

@@ -1,11 +1,15 @@
 -- What a comparison of the two runs of a named script did, on every exit, and what Done means.
 use Rattle.std.specs.Prelude.{◌≡◌, ℕ, Bool, List, ◌++◌, Option, Result, Ok, Err, IfOk, ⊤}
 use Rattle.pm_base.specs.declared.errors.Exit.{Exit}
+use Rattle.pm_base.specs.declared.errors.Exit.TheVariants.{Done, ReadFault}
 use Rattle.pm_base.specs.declared.events.Event.{Event}
 use Rattle.pm_io.specs.declared.inputs.Inputs as Inputs
 use Rattle.pm_base.specs.declared.names.NodeId.{NodeId}
 use Rattle.pm_io.specs.declared.sink.Sink as Sink
-use Rattle.pm_io.specs.Inputs.{Holds}
+use Rattle.pm_io.specs.declared.prefix.StopReason.TheVariants.{End}
+use Rattle.pm_io.specs.Calls.{Call}
+use Rattle.pm_io.specs.Given.{prefix_called}
+use Rattle.pm_io.specs.Inputs.{Holds, MayFail, Moment}
 use Rattle.pm_reach.specs.declared.members.Member.{Member}
 use Rattle.pm_reach.specs.Membership.{IsReach}
 use Rattle.pm_object.specs.declared.object.Object.{Object}
@@ -13,12 +17,14 @@ use Rattle.pm_block.specs.Block.{attached_by, passed}
 use Rattle.pm_topology.specs.declared.topology.Topology.{Topology}
 use Rattle.pm_state.specs.State.{objects_in}
 use Rattle.pm_reader.specs.Front.{ran}
+use Rattle.pm_reader.specs.Shown.{giving, shown}
 use Rattle.pm_run.specs.Run.{setup_for}
-use Rattle.pm_script.specs.Named.{IsScript}
-use Rattle.pm_script.specs.Script.{Script}
+use Rattle.pm_script.specs.Named.{IsScript, script_in}
+use Rattle.pm_script.specs.Script.{Script, script_limit}
 use Rattle.pm_trace.specs.declared.faults.Fault.{Fault}
+use Rattle.pm_trace.specs.Exits.{EndsWith}
 use Rattle.pm_trace.specs.Report.{Did, Report}
-use Rattle.pm_trace.specs.Scripts.{IsScriptOf}
+use Rattle.pm_trace.specs.Scripts.{IsScriptOf, ReadsScript, script_exit, script_named, script_or_fault}
 use Rattle.pm_isolate.specs.Differences.{isolate_report, isolate_text}
 use Rattle.pm_isolate.specs.Listed.{AreListed}
 
@@ -66,3 +72,15 @@ module _ {I O : Type 0} (i : Inputs.Ghosts I) (o : Sink.Ghosts O) where
     pub reach : IsReach (objects_in object (attached_by events)) t m members
     pub text : (o.state sink').bytes ≡ (o.state sink).bytes ++ isolate_text (setup_for object t events) m members (passed events)
     pub listed : AreListed (setup_for object t events) m members (passed events)
+
+module _ {O : Type 0} (o : Sink.Ghosts O) where
+  -- these calls were made to read the script, and what was asked for is what they gave, of whichever source: on Done a script that they
+  -- gave whole was compared, and by what they gave the exit is decided
+  pub record ComparedGiven (object : Object) (t : Topology) (m : NodeId) (name : List ℕ) (calls : List Call) (old new : Moment)
+      (sink sink' : O) (exit : Exit) : Type 0 where
+    pub reads : ReadsScript exit (script_named name) calls
+    pub whole : exit ≡ Done → (prefix_called script_limit calls).stop ≡ End
+    pub ran : Compared shown o object t m name (giving script_limit calls old) new sink sink' exit
+    pub done : o.observable → exit ≡ Done → IsCompared shown o object t m name (giving script_limit calls old) sink sink'
+    pub decided : EndsWith o (script_exit (script_or_fault (script_in (giving script_limit calls old) name))) sink sink' exit
+    pub read_cause : exit ≡ ReadFault → MayFail name script_limit (giving script_limit calls old)

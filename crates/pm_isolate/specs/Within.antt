@@ -1,12 +1,17 @@
 -- What the parts of a comparison do. No user of this crate speaks of these words.
 use Rattle.std.specs.Prelude.{◌≡◌, ℕ, ◌+◌, ◌==◌, ◌||◌, not, Bool, true, false, if◌then◌else◌, List, [], ◌∷◌, ◌++◌, length, map, Result, Ok, Err, ⊤}
 use Rattle.std.specs.List.{concat}
+use Rattle.pm_base.specs.declared.errors.Exit.{Exit}
+use Rattle.pm_base.specs.declared.errors.Exit.TheVariants.{Done}
 use Rattle.pm_base.specs.declared.errors.Failed.{Failed}
 use Rattle.pm_base.specs.declared.events.Event.{Event}
 use Rattle.pm_base.specs.declared.events.Event.TheVariants.{Post, Serve, Smc}
 use Rattle.pm_base.specs.declared.names.NodeId.{NodeId}
 use Rattle.pm_base.specs.declared.names.Unit.{Unit}
 use Rattle.pm_io.specs.declared.sink.Sink as Sink
+use Rattle.pm_io.specs.declared.prefix.StopReason.TheVariants.{End}
+use Rattle.pm_io.specs.Calls.{Call}
+use Rattle.pm_io.specs.Given.{prefix_called}
 use Rattle.pm_io.specs.Inputs.{Moment}
 use Rattle.pm_io.specs.Sink.{Wrote}
 use Rattle.pm_io.specs.Writing.{BreaksIn}
@@ -24,7 +29,8 @@ use Rattle.pm_reader.specs.declared.follow.LineStop.{LineStop}
 use Rattle.pm_reader.specs.declared.follow.LineStop.TheVariants as stops
 use Rattle.pm_reader.specs.declared.follow.LinesEnd as reader
 use Rattle.pm_reader.specs.Front.{Ahead, Attaches}
-use Rattle.pm_script.specs.Script.{Script, Stop, stop_of}
+use Rattle.pm_reader.specs.Shown.{giving, shown as shows_calls}
+use Rattle.pm_script.specs.Script.{Script, Stop, script_limit, stop_of}
 use Rattle.pm_script.specs.Script.Stop.{Bad}
 use Rattle.pm_trace.specs.Reach.{reach_text}
 use Rattle.pm_trace.specs.Report.{Report}
@@ -32,6 +38,7 @@ use Rattle.pm_trace.specs.Scripts.{at_end, fault_at}
 use Rattle.pm_isolate.specs.declared.comparison.Prepared.{Prepared}
 use Rattle.pm_isolate.specs.declared.lines.Watcher.{Watcher}
 use Rattle.pm_isolate.specs.Sides.{Sides}
+use Rattle.pm_isolate.specs.Compared.{Compared}
 use Rattle.pm_isolate.specs.Differences.{difference_line, steps_line}
 use Rattle.pm_isolate.specs.Marks.{Marks, renewed_along}
 use Rattle.pm_isolate.specs.Moves.{Logged}
@@ -147,3 +154,9 @@ module _ {O : Type 0} (o : Sink.Ghosts O) where
   abbrev pub Writes : List ℕ → O → O → Result ⊤ Failed → Type 0
   Writes piece old new (Ok nothing) = Wrote o.observable piece (o.state old) (o.state new)
   Writes piece old new (Err error) = BreaksIn o 0 (piece ∷ []) old new
+
+  -- by what these calls gave of the script: what was asked for and written, and on Done they came to the end
+  abbrev pub RanGiven : Object → Topology → NodeId → List ℕ → Moment → Moment → O → O → Exit → List Call → Type 0
+  RanGiven object t m name old new sink sink' result calls =
+      Compared shows_calls o object t m name (giving script_limit calls old) new sink sink' result
+      × (result ≡ Done → (prefix_called script_limit calls).stop ≡ End)

@@ -17,16 +17,17 @@ ghost use Rattle.pm_state.specs.State.{objects_in};
 ghost use Rattle.pm_script.specs.Named.{script_in};
 ghost use Rattle.pm_script.specs.Script.{script_limit, stop_of};
 ghost use Rattle.pm_io.specs.Readings.{Meanwhile};
-ghost use Rattle.pm_reader.specs.Follow.{IsBrokenOff, OfScript};
+ghost use Rattle.pm_reader.specs.Follow.{IsBrokenOff};
 ghost use Rattle.pm_reader.specs.Front.{Ahead, Attaches, WasReadAhead, ahead_of, ran};
+ghost use Rattle.pm_reader.specs.Shown.{OfRead};
 ghost use Rattle.pm_trace.specs.Exits.{EndsWith, IsStarved};
 ghost use Rattle.pm_trace.specs.declared.faults.Fault.TheVariants.{Memory};
 ghost use Rattle.pm_trace.specs.Report.{Reports, refusal};
 ghost use Rattle.pm_trace.specs.Scripts.{ReadsBegun, ReadsScript, script_exit, script_named, script_or_fault};
 ghost use Rattle.pm_run.specs.Run.{setup, setup_for};
-ghost use Rattle.pm_isolate.specs.Compared.{Compared, IsCompared};
+ghost use Rattle.pm_isolate.specs.Compared.{Compared, ComparedGiven, IsCompared};
 ghost use Rattle.pm_isolate.specs.Differences.{isolate_report};
-ghost use Rattle.pm_isolate.specs.Within.{IsPrepared, IsReachText, end_report, report_behind, rest_report};
+ghost use Rattle.pm_isolate.specs.Within.{IsPrepared, IsReachText, RanGiven, end_report, report_behind, rest_report};
 
 use crate::laws::what_differs_is_reached;
 use crate::lines::run_lines;
@@ -72,6 +73,10 @@ pub fn compare<I: Inputs, O: Sink>(
     ensures decided { I.observable
         → EndsWith O.Sink (script_exit (script_or_fault
         (script_in (I.state inputs.old) script.now))) out.old out.new result }
+    // And of any input so of what the reads of the script gave: on Done they gave a script whole, which was compared,
+    // and what they gave decides the exit.
+    ensures given { Meanwhile (I.state inputs.old) (I.state inputs.new) (λ calls. ComparedGiven O.Sink object topology m
+        script.now calls (I.state inputs.old) (I.state inputs.new) out.old out.new result) }
     // On every exit: what was asked for, and what was written of it.
     ensures ran { Compared I.Inputs O.Sink object topology m script.now
         inputs.old inputs.new out.old out.new result }
@@ -109,6 +114,8 @@ fn compare_named<I: Inputs, O: Sink>(
     requires formed { IsWellFormed topology }
     requires named { IsTrue (list_any (λ r. r.node == m.0) object.masters) }
     ensures ran { Compared I.Inputs O.Sink object topology m script.now inputs.old inputs.new out.old out.new result }
+    ensures given { Meanwhile (I.state inputs.old) (I.state inputs.new)
+        (RanGiven O.Sink object topology m script.now (I.state inputs.old) (I.state inputs.new) out.old out.new result) }
     ensures begun { Meanwhile (I.state inputs.old) (I.state inputs.new) (ReadsScript result (script_named script.now)) }
 {
     match inputs.begin(script) {
@@ -195,7 +202,7 @@ fn compare_begun<I: Inputs, O: Sink>(
     requires formed { IsWellFormed topology }
     requires named { IsTrue (list_any (λ r. r.node == m.0) object.masters) }
     ensures ran { Reports O.Sink (refusal Memory) out.old out.new result
-        ⊎ OfScript I.observable id (I.state inputs.old) (λ s. (members : Sequence Member)
+        ⊎ OfRead I.observable id (I.state inputs.old) (I.state inputs.new) (λ s. (members : Sequence Member)
         × IsReach (objects_in object (attached_by s.events)) topology m members
         × Reports O.Sink (isolate_report (setup_for object topology s.events) m members
         (ran s)) out.old out.new result) }
@@ -222,7 +229,7 @@ fn run<I: Inputs, O: Sink>(
 ) -> Exit
     requires front { WasReadAhead I.observable id (I.state inputs.old) prepared.old.front }
     ensures ran { (ahead : Ahead) → Attaches I.observable id ahead (I.state inputs.old) prepared.old.front
-        → OfScript I.observable id ahead.first (λ s. (attached_by s.events ≡ ahead.attached)
+        → OfRead I.observable id ahead.first (I.state inputs.new) (λ s. (attached_by s.events ≡ ahead.attached)
         × Reports O.Sink (report_behind prepared.old.reach.items
         (rest_report m (ran s) prepared.old.worlds)) out.old out.new result) }
     ensures fault { (ahead : Ahead) → Attaches I.observable id ahead (I.state inputs.old) prepared.old.front
@@ -254,7 +261,7 @@ fn run_rest<I: Inputs, O: Sink>(
 ) -> Exit
     requires front { WasReadAhead I.observable id (I.state inputs.old) front.old }
     ensures ran { (ahead : Ahead) → Attaches I.observable id ahead (I.state inputs.old) front.old
-        → OfScript I.observable id ahead.first (λ s. (attached_by s.events ≡ ahead.attached)
+        → OfRead I.observable id ahead.first (I.state inputs.new) (λ s. (attached_by s.events ≡ ahead.attached)
         × Reports O.Sink (rest_report m (ran s) worlds.old) out.old out.new result) }
     ensures fault { (ahead : Ahead) → Attaches I.observable id ahead (I.state inputs.old) front.old
         → result ≡ Exit.ReadFault → Rose ahead.first.faults (I.state inputs.new).faults }

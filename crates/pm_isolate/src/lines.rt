@@ -5,8 +5,9 @@ ghost use Rattle.pm_base.specs.Faults.{Rose};
 ghost use Rattle.pm_io.specs.declared.prefix.StopReason.TheVariants.{Failure, Unbegun};
 ghost use Rattle.pm_io.specs.Readings.{Meanwhile};
 ghost use Rattle.pm_block.specs.Block.{attached_by};
-ghost use Rattle.pm_reader.specs.Follow.{OfScript, ReadsLines};
+ghost use Rattle.pm_reader.specs.Follow.{ReadsLines};
 ghost use Rattle.pm_reader.specs.Front.{Ahead, Attaches, WasReadAhead, ran};
+ghost use Rattle.pm_reader.specs.Shown.{OfRead};
 ghost use Rattle.pm_isolate.specs.Within.{RanLines};
 
 use crate::worlds::Worlds;
@@ -43,7 +44,7 @@ pub fn run_lines<I: Inputs>(
 ) -> Result<LinesEnd, LineStop>
     requires front { WasReadAhead I.observable id (I.state inputs.old) front.old }
     ensures ran { (ahead : Ahead) → Attaches I.observable id ahead (I.state inputs.old) front.old
-        → OfScript I.observable id ahead.first
+        → OfRead I.observable id ahead.first (I.state inputs.new)
         (λ s. (attached_by s.events ≡ ahead.attached) × RanLines m (ran s) worlds.old worlds.new result) }
     ensures ends { IfOk result (λ end. end.stop ≢ Unbegun) }
     ensures fault { (ahead : Ahead) → Attaches I.observable id ahead (I.state inputs.old) front.old

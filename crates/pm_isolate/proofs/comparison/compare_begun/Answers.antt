@@ -2,7 +2,7 @@ use Rattle.std.proofs.Common.{List, inl, inr, subst, sym}
 use Rattle.pm_object.specs.declared.attached.Attached.{Attached}
 use Rattle.pm_reach.specs.Membership.{IsReach}
 use Rattle.pm_reader.specs.Front.{ran}
-use Rattle.pm_reader.proofs.Named.{of_more}
+use Rattle.pm_reader.proofs.ShownLemmas.{read_more}
 use Rattle.pm_run.specs.Run.{setup}
 use Rattle.pm_state.specs.State.{objects_in}
 use Rattle.pm_trace.specs.Report.{Report, Reports}
@@ -28,7 +28,7 @@ returns-in-Ok-clause-ran g c =
     let (attached, ready) = c.in-Ok.ensures.prepared in
     let object = c.args.object in
     let t = c.args.topology in
-    inr (of_more g.I.Inputs.observable c.args.id _ _ _
+    inr (read_more g.I.Inputs.observable c.args.id _ _ _ _
     (λ s did.
     let reach = subst (λ (a : List Attached). IsReach (objects_in object a) t c.args.m ready.members) (sym did.0) ready.reach in
     let reports = subst (λ (r : Report). Reports g.O.Sink r c.args.out.now c.run-exit.new.out c.run-exit.result) (report_is g.I.Inputs.observable c.args.id _ _ (setup object attached t) c.args.m (ran s) c.in-Ok.prepared ready) did.1 in

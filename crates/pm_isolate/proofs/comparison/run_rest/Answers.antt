@@ -1,6 +1,6 @@
 use Rattle.std.proofs.Common.{refl, subst}
 use Rattle.pm_reader.specs.Front.{ran}
-use Rattle.pm_reader.proofs.Named.{of_more}
+use Rattle.pm_reader.proofs.ShownLemmas.{read_more}
 use Rattle.pm_script.specs.Script.{stop_of}
 use Rattle.pm_trace.proofs.ScriptsLemmas.{failure_by, line_is_read, read_by}
 use Rattle.pm_trace.specs.Report.{Report, Reports, refusal}
@@ -14,7 +14,7 @@ pub returns-in-Ok-clause-ran : goal.returns-in-Ok-clause-ran
 returns-in-Ok-clause-ran g c = λ ahead front.
     let then = c.run_lines.new.worlds in
     let end = c.in-Ok.end in
-    of_more g.I.Inputs.observable c.args.id _ _ _
+    read_more g.I.Inputs.observable c.args.id _ _ _ _
     (λ s did. let ends = did.1 in (did.0, subst (λ (r : Report). Reports g.O.Sink r c.args.out.now c.finish.new.out c.finish.result) (rest_closed c.args.m (ran s) end.stop c.args.worlds.now then end.count ends.0 ends.1 ends.2) c.finish.ensures))
     (c.in-Ok.ensures.ran ahead front)
 
@@ -28,7 +28,7 @@ pub returns-in-Err-Bad-clause-ran : goal.returns-in-Err-Bad-clause-ran
 returns-in-Err-Bad-clause-ran g c = λ ahead front.
     let n = c.in-Err-Bad.number in
     let cause = c.in-Err-Bad.cause in
-    of_more g.I.Inputs.observable c.args.id _ _ _
+    read_more g.I.Inputs.observable c.args.id _ _ _ _
     (λ s did. let ends = did.1 in (did.0, subst (λ (r : Report). Reports g.O.Sink r c.args.out.now c.refuse.new.out c.refuse.result) (rest_bad c.args.m (ran s) c.args.worlds.now n cause ends.0 ends.1) c.refuse.ensures))
     ((rw c.in-Err-Bad.field-0-is at c.in-Err-Bad.ensures.ran) ahead front)
 
@@ -45,4 +45,4 @@ returns-in-Err-Bad-clause-reads g c = λ ahead front. reads_bad g.O.Sink (Line c
 
 -- who follows the lines never fails
 pub unreachable-requires : goal.unreachable-requires
-unreachable-requires g c = ((rw c.in-Err-Broken.field-0-is at c.in-Err-Broken.ensures.ran) c.requires.front.0 c.requires.front.1).holds.1
+unreachable-requires g c = ((rw c.in-Err-Broken.field-0-is at c.in-Err-Broken.ensures.ran) c.requires.front.0 c.requires.front.1).held.holds.1
