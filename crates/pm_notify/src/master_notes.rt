@@ -16,24 +16,27 @@ use std::marker::Model;
 
 /// What a master has asked for and what waits for it about each unit of a chip, in the order of units.
 /// About a reset line nothing is ever asked for, and nothing waits. Beside it stands whether a note may wait, so that a
-/// master for which none does is seen at once.
+/// master for which none does is seen at once, and whether anything was kept since all was forgotten, so that no unit is
+/// looked at to forget nothing.
 #[derive(Drop)]
 pub struct MasterNotes {
     notes: UnitMap<NodeNotes>,
     may_wait: bool,
+    may_hold: bool,
 }
 
 impl Model for MasterNotes {
     ghost use Rattle.std.specs.Prelude.{◌≡◌, [], List, false};
     ghost use Rattle.pm_base.specs.declared.names.Unit.{Unit};
     ghost use Rattle.pm_notify.specs.declared.node_notes.NodeNotes.{NodeNotes};
-    ghost use Rattle.pm_notify.specs.MasterNotes.{waiting_in};
+    ghost use Rattle.pm_notify.specs.MasterNotes.{forgotten, waiting_in};
 
     ghost Value = { List (Unit × NodeNotes) };
 
     ghost view = { λ master_notes. master_notes.notes };
 
-    ghost invariant = { λ master_notes. (master_notes.may_wait ≡ false → waiting_in master_notes.notes ≡ []) };
+    ghost invariant = { λ master_notes. (master_notes.may_wait ≡ false → waiting_in master_notes.notes ≡ [])
+        × (master_notes.may_hold ≡ false → forgotten master_notes.notes ≡ master_notes.notes) };
 }
 
 impl MasterNotes {
@@ -49,6 +52,7 @@ impl MasterNotes {
         Ok(MasterNotes {
             notes,
             may_wait: false,
+            may_hold: false,
         })
     }
 
@@ -67,6 +71,7 @@ impl MasterNotes {
     {
         self.notes.set(Unit::Node(node), notes);
         self.may_wait = true;
+        self.may_hold = true;
     }
 
     /// Whether an event of a node is asked for.
@@ -134,15 +139,16 @@ impl MasterNotes {
     pub fn clear(&mut self)
         ensures { self.new ≡ forgotten self.old }
     {
-        clear_all(&mut self.notes);
+        clear_if(&mut self.notes, self.may_hold);
         self.may_wait = false;
+        self.may_hold = false;
     }
 
     /// Nothing is asked for any more, and what waits stays.
     pub fn forget(&mut self)
         ensures { self.new ≡ without_notifiers self.old }
     {
-        drop_notifiers(&mut self.notes);
+        drop_notifiers_if(&mut self.notes, self.may_hold);
         self.may_wait = true;
     }
 }
@@ -188,6 +194,16 @@ fn first_in(notes: &UnitMap<NodeNotes>, may_wait: bool) -> Option<Waiting>
     None
 }
 
+/// About each unit nothing is asked for any more, and nothing waits. No unit is looked at if nothing is held about any.
+fn clear_if(notes: &mut UnitMap<NodeNotes>, may_hold: bool)
+    requires { may_hold ≡ false → forgotten notes.old ≡ notes.old }
+    ensures { notes.new ≡ forgotten notes.old }
+{
+    if may_hold {
+        clear_all(notes);
+    }
+}
+
 /// About each unit nothing is asked for any more, and nothing waits.
 fn clear_all(notes: &mut UnitMap<NodeNotes>)
     ensures { notes.new ≡ forgotten notes.old }
@@ -195,6 +211,16 @@ fn clear_all(notes: &mut UnitMap<NodeNotes>)
     unit_map_places::<NodeNotes>();
     for place in 0..notes.len() {
         notes.set_at(place, NodeNotes::none());
+    }
+}
+
+/// About each unit nothing is asked for any more, and what waits stays. No unit is looked at if nothing is held about any.
+fn drop_notifiers_if(notes: &mut UnitMap<NodeNotes>, may_hold: bool)
+    requires { may_hold ≡ false → forgotten notes.old ≡ notes.old }
+    ensures { notes.new ≡ without_notifiers notes.old }
+{
+    if may_hold {
+        drop_notifiers(notes);
     }
 }
 

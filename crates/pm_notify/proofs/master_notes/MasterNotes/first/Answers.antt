@@ -10,6 +10,9 @@ not_some None none = refl
 not_some (Some waiting) none = cc
 
 pub invariant_of-self : goal.invariant_of-self
-invariant_of-self c = λ quiet.
-    let none : is_some c.first_in-first.result ≡ false = sym c.is_some-self-inside.ensures ∙ quiet in
-    none_first (waiting_in c.self.inside.notes) (sym c.first_in-first.ensures.first ∙ not_some c.first_in-first.result none)
+invariant_of-self c = (
+  (λ quiet.
+      let none : is_some c.first_in-first.result ≡ false = sym c.is_some-self-inside.ensures ∙ quiet in
+      none_first (waiting_in c.self.inside.notes) (sym c.first_in-first.ensures.first ∙ not_some c.first_in-first.result none)),
+  c.self.invariant.1,
+)
