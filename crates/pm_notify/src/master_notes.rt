@@ -16,8 +16,8 @@ use std::marker::Model;
 
 /// What a master has asked for and what waits for it about each unit of a chip, in the order of units.
 /// About a reset line nothing is ever asked for, and nothing waits. Beside it stands whether a note may wait, so that a
-/// master for which none does is seen at once, and whether anything was kept since all was forgotten, so that no unit is
-/// looked at to forget nothing.
+/// master for which none does is seen at once, and whether anything was kept since all was forgotten: if nothing was, no
+/// unit is looked at to forget it.
 #[derive(Drop)]
 pub struct MasterNotes {
     notes: UnitMap<NodeNotes>,
@@ -194,7 +194,7 @@ fn first_in(notes: &UnitMap<NodeNotes>, may_wait: bool) -> Option<Waiting>
     None
 }
 
-/// About each unit nothing is asked for any more, and nothing waits. No unit is looked at if nothing is held about any.
+/// About each unit nothing is asked for any more, and nothing waits. No unit is looked at if nothing is held.
 fn clear_if(notes: &mut UnitMap<NodeNotes>, may_hold: bool)
     requires { may_hold ≡ false → forgotten notes.old ≡ notes.old }
     ensures { notes.new ≡ forgotten notes.old }
@@ -214,7 +214,7 @@ fn clear_all(notes: &mut UnitMap<NodeNotes>)
     }
 }
 
-/// About each unit nothing is asked for any more, and what waits stays. No unit is looked at if nothing is held about any.
+/// About each unit nothing is asked for any more, and what waits stays. No unit is looked at if nothing is held.
 fn drop_notifiers_if(notes: &mut UnitMap<NodeNotes>, may_hold: bool)
     requires { may_hold ≡ false → forgotten notes.old ≡ notes.old }
     ensures { notes.new ≡ without_notifiers notes.old }
