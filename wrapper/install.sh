@@ -65,7 +65,7 @@ END_OF_FILE
 
 # Puts the binding for Python, which finds the shared object from there.
 put_binding() {
-    for file in pmu.py pmu_library.py pmu_told.py; do
+    for file in pmu.py pmu_eemi.py pmu_library.py pmu_told.py; do
         put 644 "$top/bindings/python/$file" "lib/pmu/python/$file" || return
     done
 }

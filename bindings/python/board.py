@@ -1,11 +1,9 @@
-"""board.py OBJECT: a board in Python. Its device switches power and has a fuse; its masters are a boot and two faults."""
+"""board.py OBJECT: a board in Python, whose device has a fuse that blows during a boot."""
 
 import sys
 
 from pmu import Callback, Command, Controller, Drop, Outcome, Reply, Start, Step
-
-GET_NODE_STATUS, REQUEST_WAKEUP, REQUEST_NODE, INIT_FINALIZE = 3, 10, 13, 21
-APU, RPU_0, OCM_BANK_0, UART_0, ACCESS, BLOCKING, NON_BLOCKING = 1, 7, 11, 33, 1, 2, 3
+from pmu_eemi import Ack, Call, Capability, Master, Node
 
 
 class Board:
@@ -37,12 +35,14 @@ def show(what: str, step: Step) -> None:
 board = Board()
 with open(sys.argv[1], "rb") as file, Controller(file.read(), board) as core:
     show("load", core.load)
-    show("APU finishes its initialization", core.ipi(APU, INIT_FINALIZE))
-    show("APU starts RPU_0", core.ipi(APU, REQUEST_WAKEUP, RPU_0, 0x10000 + 1, 0, BLOCKING))
-    show("RPU_0 requests OCM_BANK_0", core.ipi(RPU_0, REQUEST_NODE, OCM_BANK_0, ACCESS, 0, NON_BLOCKING))
-    board.blown.add(UART_0)
-    show("APU requests UART_0, whose fuse is blown", core.ipi(APU, REQUEST_NODE, UART_0, ACCESS, 0, BLOCKING))
+    show("APU finishes its initialization", core.ipi(Master.APU, Call.INIT_FINALIZE))
+    show("APU starts RPU_0", core.ipi(Master.APU, Call.REQUEST_WAKEUP, Node.RPU_0, 0x10000 + 1, 0, Ack.BLOCKING))
+    request = Call.REQUEST_NODE, Node.OCM_BANK_0, Capability.ACCESS, 0, Ack.NON_BLOCKING
+    show("RPU_0 requests OCM_BANK_0", core.ipi(Master.RPU_0, *request))
+    board.blown.add(Node.UART_0)
+    request = Call.REQUEST_NODE, Node.UART_0, Capability.ACCESS, 0, Ack.BLOCKING
+    show("APU requests UART_0, whose fuse is blown", core.ipi(Master.APU, *request))
     board.blown.clear()
     show("a tick, once the fuse is replaced", core.tick(1))
-    print("settled:", core.is_settled(), "and UART_0 is told to APU as", core.node_status(APU, UART_0))
-    show("a message of master 8, which is off", core.ipi(8, GET_NODE_STATUS, UART_0))
+    print("settled:", core.is_settled(), "and UART_0 is told to APU as", core.node_status(Master.APU, Node.UART_0))
+    show("a message of RPU_1, which is off", core.ipi(Master.RPU_1, Call.GET_NODE_STATUS, Node.UART_0))

@@ -8,8 +8,8 @@ its commands are given to the device one by one, and what the step tells comes b
 rest: the order of calls, what a unit's values are, and what isn't as on a board.
 
 Handle has the functions of pmu.h one by one, for whoever carries out the commands in another way; Controller is a Handle too.
-Any answer but PMU_DONE is raised as the exception of its name, each of which is a NotDone. Numbers of calls, nodes and statuses
-are those of pmu_eemi.h.
+Any answer but PMU_DONE is raised as the exception of its name, each of which is a NotDone. pmu_eemi.py has the numbers of calls,
+nodes and statuses by name.
 
 Python 3.9 or a newer one. The shared object is that of the variable PMU_SHARED_OBJECT, else the one that `./pmu --install`
 has put beside this file, else `libpmu.so.0.1` as the system finds it.

@@ -1,4 +1,4 @@
-"""Tests of the header of the interface's constants."""
+"""Tests of the interface's constants for C and Python."""
 
 import os
 import re
@@ -6,6 +6,7 @@ import shutil
 import subprocess
 import tempfile
 import unittest
+from typing import Any
 
 import eemi_header
 import names
@@ -29,6 +30,19 @@ class EemiHeader(unittest.TestCase):
     def test_is_that_of_the_table_of_names(self) -> None:
         with open(HEADER, encoding="ascii") as file:
             self.assertEqual(file.read(), eemi_header.header())
+
+    def test_the_module_for_python_is_that_of_the_table_of_names(self) -> None:
+        path = os.path.join(TOP, "bindings", "python", "pmu_eemi.py")
+        with open(path, encoding="ascii") as file:
+            text = file.read()
+        self.assertEqual(text, eemi_header.module())
+        made: dict[str, Any] = {"__name__": "pmu_eemi"}
+        exec(compile(text, path, "exec"), made)  # pylint: disable=exec-used
+        found = {}
+        for kind in [it for it in made.values() if isinstance(it, type) and it.__module__ == "pmu_eemi"]:
+            prefix = re.sub("(?<=[a-z])(?=[A-Z])", "_", kind.__name__).upper()
+            found.update({f"PMU_{prefix}_{name}": int(it) for name, it in kind.__members__.items()})
+        self.assertEqual(found, constants())
 
     def test_has_each_name_that_the_chip_and_the_profile_have(self) -> None:
         found = constants()

@@ -9,7 +9,7 @@ from common import EXAMPLE, HERE, PROGRAMS, Tree, read, write
 
 PROGRAM_FILES = {"bin/pmu", "lib/pmu/pmu", "lib/pmu/program", "lib/pmu/version", "lib/pmu/installed", "lib/pmu/wrapper/kept.sh", "lib/pmu/views/run.py"}
 LIBRARY_FILES = {"lib/libpmu.a", "lib/libpmu_memory.a", "lib/libpmu.so", "lib/libpmu.so.0.1", "lib/libpmu.so.0.1.0", "lib/pkgconfig/pmu.pc"}
-ALWAYS = {"include/pmu.h", "include/pmu_eemi.h", "share/man/man1/pmu.1", "share/man/man3/pmu.3", "lib/pmu/python/pmu.py", "share/doc/pmu/docs/FORMATS.md", "share/doc/pmu/examples/two-masters.obj"}
+ALWAYS = {"include/pmu.h", "include/pmu_eemi.h", "share/man/man1/pmu.1", "share/man/man3/pmu.3", "lib/pmu/python/pmu.py", "lib/pmu/python/pmu_eemi.py", "share/doc/pmu/docs/FORMATS.md", "share/doc/pmu/examples/two-masters.obj"}
 
 
 class Install(Tree):
