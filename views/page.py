@@ -5,10 +5,10 @@ from typing import Iterable, Optional
 
 STYLE = """\
 :root { color-scheme: light dark; --ground: #fff; --text: #1c1c1e; --faint: #5c5f66; --line: #d5d8de; --band: #f4f5f8;
-  --link: #0a58b5; --good: #10693c; --bad: #b3261e; --strong: #e6effb; }
+  --link: #0a58b5; --device: #a50; --good: #10693c; --bad: #b3261e; --strong: #e6effb; }
 @media (prefers-color-scheme: dark) {
   :root { --ground: #16181c; --text: #e8e9ec; --faint: #a3a8b2; --line: #3a3e47; --band: #1f2229; --link: #8ab8ff;
-    --good: #6fd39b; --bad: #ff8b80; --strong: #20304a; } }
+    --device: #f0a860; --good: #6fd39b; --bad: #ff8b80; --strong: #20304a; } }
 * { box-sizing: border-box; }
 body { margin: 0 auto; max-width: 76rem; padding: 1rem 1rem 4rem; background: var(--ground); color: var(--text);
   font: 16px/1.5 system-ui, sans-serif; overflow-wrap: break-word; }
@@ -33,7 +33,7 @@ button { font: inherit; padding: .2rem .7rem; margin-right: .5rem; border: 1px s
   background: var(--band); color: var(--text); cursor: pointer; }
 .picture svg text { fill: var(--text); } .picture svg .grid { stroke: var(--line); } .picture svg .wave { stroke: var(--link); }
 .picture svg .box { fill: var(--strong); stroke: var(--link); } .picture svg .zero { fill: var(--ground); stroke: var(--link); }
-.picture svg rect:not([class]) { fill: var(--ground); } .picture svg .refused { stroke: var(--bad); }
+.picture svg rect:not([class]) { fill: var(--ground); } .picture svg .device { stroke: var(--device); } .picture svg .refused { stroke: var(--bad); }
 .picture svg { display: block; max-width: none; }
 @media print { body { max-width: none; } button, nav { display: none; } }
 """

@@ -27,6 +27,7 @@ OPTIONS = {"--json": False}
 
 LEFT, STEP, ROW = 140, 52, 26  # pixels: the names, a script line, a signal
 HIGH, LOW = 5, 20  # of a signal, from the top of its row
+KEY = 18  # a line of the legend
 RISE, RUN = 5.8, 4.9  # how far a character of a slanted text goes up, and to the right, in the usual wide fonts
 
 STYLE = """\
@@ -241,22 +242,38 @@ def grid(script: list[tuple[int, str]], top: int, height: int) -> Iterator[str]:
     yield f'<line class="grid" x1="{end}" y1="{top - 20}" x2="{end}" y2="{height}"/>'
 
 
+def legend(rows: list[Row], top: int) -> list[str]:
+    """What the colours and crosses mean, a line each, if the device has rows."""
+    of_device = [row for row in rows if row.signal.is_of_device()]
+    if not of_device:
+        return []
+    said = [("wave", "as it is requested (the book)"), ("wave device", "as the device has it, if that didn't follow")]
+    lines = [f'<path class="{kind}" d="M{LEFT} {top + KEY * place}h24"/>' for place, (kind, _) in enumerate(said)]
+    if any(row.refused() for row in of_device):
+        lines.append(f'<path class="refused" d="M{LEFT + 8} {top + KEY * 2 - 5}l9 9 m0 -9 l-9 9"/>')
+        said.append(("refused", "a command that the device refused"))
+    return lines + [f'<text class="legend" x="{LEFT + 32}" y="{top + KEY * place + 4}">{text}</text>' for place, (_, text) in enumerate(said)]
+
+
 def drawn(dump: Dump) -> Iterator[str]:
     """The lines of the picture of a dump."""
     script, rows = script_of(dump), rows_of(dump)
     texts = [text.removeprefix("ipi ") for _, text in script]
     top = int(30 + RISE * max(map(len, texts)))
     width = int(max(column(len(script)) + 20, *(column(line) + 30 + RUN * len(text) for line, text in enumerate(texts))))
-    height = top + ROW * len(rows) + 8
+    end = top + ROW * len(rows) + 8
+    below = legend(rows, end + KEY)
+    height = end + (KEY * (sum("<text" in line for line in below) + 1) if below else 0)
     yield f'<svg xmlns="http://www.w3.org/2000/svg" width="{width}" height="{height}" viewBox="0 0 {width} {height}">'
     yield f"<style>\n{STYLE}\n</style>"
     yield f'<rect width="{width}" height="{height}" fill="white"/>'
-    yield from grid(script, top, height)
+    yield from grid(script, top, end)
     for place, row in enumerate(rows):
         above = top + ROW * place
         yield f'<text class="name" x="{LEFT - 8}" y="{above + 17}">{row.signal.label()}</text>'
         yield from (levels if len(row.words) <= 2 else boxes)(row, len(script), above)
         yield from crosses(row, above)
+    yield from below
     yield "</svg>"
 
 

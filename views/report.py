@@ -168,9 +168,8 @@ def of_wave(run: steps.Steps, chip: chips.Chip, numbers: list[str]) -> str:
     if len(numbers) > MOST_DRAWN:
         return f"<p>The script has {count(len(numbers), 'line')}, and {MOST_DRAWN} at most are drawn here: ./pmu --vcd makes a dump for a viewer.</p>"
     drawn = "\n".join(picture.drawn(picture.read("\n".join(waveform.dump(chip, run, numbers)))))
-    legend = "A row of the device is there if it didn't follow the book; a cross is a command that it refused."
     svg = re.sub(r"^\s*<\?xml[^>]*>\s*", "", drawn)
-    return page.tag("div", svg, class_="wide picture", tabindex="0") + page.tag("p", page.text(legend), class_="faint")
+    return page.tag("div", svg, class_="wide picture", tabindex="0")
 
 
 def of_expectations(over: steps.Run, script: str) -> str:

@@ -63,6 +63,14 @@ class Page(Case):
         self.assertNotIn("@import", content)
         self.assertNotIn("url(", content)
 
+    def test_what_the_device_has_is_of_another_colour_in_both_schemes(self):
+        script = self.file("broken.script", "ipi 1 21\nbreak 33\nipi 1 13 33 1 0 2\n")
+        content, _, text = self.page(example("laboratory.obj"), script)
+        self.assertEqual(content.count("--device: #"), content.count("--link: #"))
+        style = content.partition("</style>")[0]
+        self.assertGreater(style.index(".picture svg .device { stroke: var(--device); }"), style.index(".picture svg .wave {"))
+        self.assertIn("a command that the device refused", text)
+
     def test_each_way_leads_to_a_part(self):
         _, found, _ = self.page(example("laboratory.obj"))
         ways = {value[1:] for tag, name, value in found.attributes if (tag, name) == ("a", "href")}

@@ -233,7 +233,19 @@ class Picture(Case):
         script = self.file("broken.script", "ipi 1 21\nbreak 33\nipi 1 13 33 1 0 2\nmend 33\n")
         text = self.drawn(example("laboratory.obj"), script)
         self.assertEqual([row for row in self.rows(text) if "UART_0" in row], ["UART_0", "device UART_0"])
-        self.assertEqual(text.count('class="refused"'), 1)
+        # (one of them is in the legend)
+        self.assertEqual(text.count('class="refused"'), 2)
+
+    def test_a_legend_says_what_the_colours_are_if_there_are_two(self):
+        legend = r'class="legend".*?>(.*?)<'
+        self.assertEqual(re.findall(legend, self.drawn(example("laboratory.obj"), example("sleep.script"))), [])
+        text = self.drawn(example("laboratory.obj"), example("force.script"))
+        self.assertEqual(re.findall(legend, text), ["as it is requested (the book)", "as the device has it, if that didn't follow"])
+        script = self.file("broken.script", "ipi 1 21\nbreak 33\nipi 1 13 33 1 0 2\n")
+        text = self.drawn(example("laboratory.obj"), script)
+        self.assertEqual(re.findall(legend, text)[2:], ["a command that the device refused"])
+        height = int(re.search(r' height="(\d+)"', text)[1])
+        self.assertLess(max(int(y) for y in re.findall(r'class="legend" x="\d+" y="(\d+)"', text)), height)
 
     def test_bad_use(self):
         self.assertIn("--svg is followed by replay", self.refused("--svg"))
