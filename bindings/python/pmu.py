@@ -212,7 +212,7 @@ class Controller(Handle):
 
     def __init__(self, obj: bytes, device: Optional[Device] = None, library: Optional[ctypes.CDLL] = None) -> None:
         super().__init__(obj, library)
-        self.device: Device = device or ModelDevice()
+        self.device: Device = ModelDevice() if device is None else device
         self._number = -1
         try:
             self.load = self._begun()
