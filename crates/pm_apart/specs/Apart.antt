@@ -42,7 +42,7 @@ StaysApart c answers events =
     (board other : Standing) (m : NodeId) (unit : Unit) → IsOutOfReach c m unit
     → filter (is_about unit) (run_lines c board answers events) ≡ filter (is_about unit) (run_lines c other [] (quiet m events))
 
--- the same of the lines of its script lines alone, up to that within whose text it breaks off, if it does: no closing table is
+-- the run of its script lines alone keeps so apart, up to that within whose text it breaks off, if it does: no closing table is
 -- written then
 abbrev pub StepsStayApart : Setup → List (List Bool) → List Event → Option ℕ → Type 0
 StepsStayApart c answers events cut =
@@ -73,7 +73,7 @@ module _ {D : Type 0} (d : Device.Ghosts D) where
     pub beyond : (m : NodeId) → BooksStayApart c events m
     pub telling : (m : NodeId) → TellsApart c events m
 
-  -- the same of its script lines alone, up to that within whose text it breaks off, if it does
+  -- a run of its script lines alone, up to that within whose text it breaks off, if it does, keeps so apart
   pub record StepsKeepApart (c : Setup) (answers : List (List Bool)) (events : List Event) (cut : Option ℕ) (old new : D) : Type 0 where
     pub lines : (board : Standing) → concat (texts 0 (completed_in c board (until cut (driven c answers events))))
         ≡ concat (map line_text (step_lines 0 (completed_in c board (until cut (driven c answers events)))))
