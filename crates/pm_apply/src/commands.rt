@@ -29,7 +29,7 @@ use pm_topology::{kinds_are_exact, unit_maps, units_stand_in_order};
 /// The outbox was loaded for the book's topology and holds no command yet, and the record is one of
 /// that topology. Each unit whose value in the record isn't the book's moved in the step, or lags: turns are
 /// taken for units that moved or lag and for the line that is pulsed alone, by the list of their places, and for all
-/// power nodes where one of them is marked. Where no unit moved or lags and no line is pulsed, nothing is done.
+/// power nodes if one of them is marked. If no unit moved or lags and no line is pulsed, nothing is done.
 pub fn carry<D: Device>(dev: &mut D, kept: &mut Kept, book: &Book, out: &mut Outbox)
     requires room { HasRoomFor book.now out.old }
     requires fresh { out.old.done.items ≡ [] }
@@ -41,7 +41,7 @@ pub fn carry<D: Device>(dev: &mut D, kept: &mut Kept, book: &Book, out: &mut Out
     ensures part { part_in kept.new out.new ≡ part_of kept.old (answers_in out.new) book.now (outputs_in out.old) }
     // The device was given these commands with these answers, in this order, and nothing else.
     ensures given { Chain D.Does (orders_in out.new) dev.old dev.new }
-    // So its count of faults rose with each that failed, and where its broken nodes are observable the
+    // So its count of faults rose with each that failed, and if its broken nodes are observable the
     // failed ones are exactly those on broken nodes.
     ensures shown { ShowsAll D.values_observable D.nodes_observable (orders_in out.new) (D.state dev.old)
         (D.state dev.new) }
@@ -51,7 +51,7 @@ pub fn carry<D: Device>(dev: &mut D, kept: &mut Kept, book: &Book, out: &mut Out
     ensures marks { AreMarked book.now.fixed.topology (λ u. value u book.now) kept.new }
     // Nothing is used without power, and no domain goes down under its users, whatever fails.
     ensures ordered { IsOrdered book.now.fixed.topology (kept_value kept.old) (orders_in out.new) }
-    // A unit lags only where a command failed in this step: on it, above it or below it.
+    // A unit lags only if a command failed in this step: on it, above it or below it.
     ensures explained { LagsAreExplained book.now.fixed.topology (λ u. value u book.now) kept.new out.new.done.items }
     // Each command is on a unit of the chip.
     ensures known { AreHarmless book.now.fixed.topology (orders_in out.new) }

@@ -55,7 +55,7 @@ pub fn each_part_is_safe()
     values_are_fed();
 }
 
-/// Where no command of a step is refused, it is the step under a device that never refuses; and under
+/// If no command of a step is refused, it is the step under a device that never refuses; and under
 /// answers of which none is a no each command succeeds, the record has the book's values, and the answer is the
 /// book's.
 pub fn a_part_without_refusal()

@@ -14,7 +14,7 @@ use pm_core::Book;
 use pm_record::{Kept, KeptValue};
 use pm_topology::{kinds_are_exact, unit_maps, units_stand_in_order};
 
-/// The place in the record of the power node at a place that goes up, and its command. Nothing comes out where it has
+/// The place in the record of the power node at a place that goes up, and its command. Nothing comes out if it has
 /// no command: it isn't marked, or isn't down in the record, or stays so.
 #[inline(always)]
 pub(crate) fn raised(
@@ -58,7 +58,7 @@ fn rises(at: usize, unit: Unit, parent: Option<usize>, book: &Book, kept: &Kept)
     book.value_at(at) == 1 && is_fed(book.topology(), kept, parent)
 }
 
-/// The place in the record of the power node at a place that goes down, and its command. Nothing comes out where it has
+/// The place in the record of the power node at a place that goes down, and its command. Nothing comes out if it has
 /// no command: it isn't marked, or isn't up in the record, or stays so.
 #[inline(always)]
 pub(crate) fn lowered(

@@ -27,7 +27,7 @@ use pm_record::{Kept, KeptValue};
 use pm_topology::{kinds_are_exact, unit_maps, units_stand_in_order};
 
 /// Takes the turns of a step, one after another: power nodes go up, then the other units take their values, then
-/// power nodes go down. Power nodes have turns where one of them is marked, and each other unit where it is: what is
+/// power nodes go down. Power nodes have turns if one of them is marked, and each other unit where it is: what is
 /// left has no command.
 pub(crate) fn take_turns<D: Device>(dev: &mut D, kept: &mut Kept, book: &Book, out: &mut Outbox)
     requires room { HasRoomFor book.now out.old }
@@ -52,7 +52,7 @@ pub(crate) fn take_turns<D: Device>(dev: &mut D, kept: &mut Kept, book: &Book, o
     lower(dev, kept, book, out, lagging);
 }
 
-/// The power nodes go up that are up in the book, parents first. Where none lags, none does.
+/// The power nodes go up that are up in the book, parents first. If none lags, none does.
 fn raise<D: Device>(dev: &mut D, kept: &mut Kept, book: &Book, out: &mut Outbox, lagging: bool)
     requires followed { IsFollowed book.now.fixed.topology (λ u. value u book.now) out.old.pulse kept.old }
     requires room { length out.old.done.items + most_of book.now.fixed.topology (λ u. value u book.now)
@@ -92,7 +92,7 @@ fn raise_one<D: Device>(dev: &mut D, kept: &mut Kept, book: &Book, out: &mut Out
     issue_at(dev, kept, out, at, command);
 }
 
-/// The power nodes go down that are down in the book, parents last. Where none lags, none does.
+/// The power nodes go down that are down in the book, parents last. If none lags, none does.
 fn lower<D: Device>(dev: &mut D, kept: &mut Kept, book: &Book, out: &mut Outbox, lagging: bool)
     requires followed { IsFollowed book.now.fixed.topology (λ u. value u book.now) out.old.pulse kept.old }
     requires room { length out.old.done.items + most_of book.now.fixed.topology (λ u. value u book.now)

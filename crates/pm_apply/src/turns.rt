@@ -61,7 +61,7 @@ pub(crate) fn turn_at(k: usize, book: &Book) -> Turn
 }
 
 /// The first place from this one on whose turn is taken. The turns before it are those of units that don't lag, and have
-/// no command. It is past the last turn where none is left, and where no unit is marked no turn is looked at.
+/// no command. It is past the last turn if none is left, and if no unit is marked no turn is looked at.
 pub(crate) fn next_visited(from: usize, book: &Book, kept: &Kept) -> usize
     requires { units_in kept.now ≡ units_of book.now.fixed.topology }
     ensures from { from ≤ result }
@@ -155,7 +155,7 @@ pub(crate) fn pulse_before(pulse: Option<LineId>, turn: Turn) -> Option<Turn>
     }
 }
 
-/// The turn in which a unit is pulsed, where it is the reset line that is pulsed.
+/// The turn in which a unit is pulsed, if it is the reset line that is pulsed.
 pub(crate) fn pulse_turn(pulse: Option<LineId>, unit: Unit) -> Option<Turn>
     ensures { option_to_list result ≡ pulse_turn pulse unit }
 {
@@ -181,6 +181,7 @@ pub(crate) fn due(turn: Turn, book: &Book, kept: &Kept) -> Option<Command>
     }
 }
 
+/// The command, if it is due.
 fn where_due(is_due: bool, command: Command) -> Option<Command>
     ensures { result ≡ where_due is_due command }
 {
@@ -189,6 +190,8 @@ fn where_due(is_due: bool, command: Command) -> Option<Command>
 
 // ---- a power node goes up
 
+/// The command that takes up the power node at a place: due if it is up in the book and down in the record, whose
+/// parent is up.
 fn power_on(place: usize, book: &Book, kept: &Kept) -> Option<Command>
     ensures { result ≡ power_on book.now.fixed.topology (λ u. value u book.now) kept.now
         (slice_get book.now.fixed.topology.powers place) }
@@ -233,6 +236,8 @@ fn power_value(t: &Topology, kept: &Kept, place: usize) -> u32
 
 // ---- a reset line is pulsed
 
+/// The first command of a pulse of a reset line: 1, unless the line is asserted already (UG1200,
+/// PM_RESET_ACTION_PULSE).
 fn pulse(line: LineId, kept: &Kept) -> Option<Command>
     ensures { result ≡ pulse kept.now line }
 {
@@ -242,6 +247,8 @@ fn pulse(line: LineId, kept: &Kept) -> Option<Command>
 
 // ---- a unit that is no power node takes its value
 
+/// The command that sets a slave, a processor or a reset line to its value in the book, if the record has another and
+/// the value has power.
 fn apply(unit: Unit, book: &Book, kept: &Kept) -> Option<Command>
     ensures { result ≡ apply book.now.fixed.topology (λ u. value u book.now) kept.now unit }
 {
@@ -318,6 +325,8 @@ fn takes_by(kind: Kind, unit: Unit, value: u32, t: &Topology, kept: &Kept) -> bo
 
 // ---- a power node goes down
 
+/// The command that takes down the power node at a place: due if it is down in the book and up in the record, and
+/// nothing directly below needs it by the record.
 fn power_off(place: usize, book: &Book, kept: &Kept) -> Option<Command>
     requires units { units_in kept.now ≡ units_of book.now.fixed.topology }
     requires supplies { HasSupplies book.now.fixed.topology kept.now }

@@ -20,6 +20,7 @@ impl<'a> Wanted for UnitValues<'a> {
 
     ghost IsAt = { λ _ _ _. ⊤ };
 
+    /// The book's value of a unit, found by the unit.
     fn value_at(&self, _place: usize, unit: Unit) -> u32
         ensures { result ≡ value_in unit self.now.book.now }
     {
@@ -42,6 +43,7 @@ impl<'a> Wanted for PlaceValues<'a> {
 
     ghost IsAt = { λ values place unit. slice_get (units_of values.book.now.fixed.topology) place ≡ Some unit };
 
+    /// The book's value of a unit, found by its place.
     #[inline(always)]
     fn value_at(&self, place: usize, _unit: Unit) -> u32
         requires { slice_get (units_of self.now.book.now.fixed.topology) place ≡ Some _unit }
