@@ -32,7 +32,7 @@ impl<T> BoundedList<T> {
     ///
     /// # Errors
     ///
-    /// `NoMemory` where there is not enough memory.
+    /// `NoMemory` if there is not enough memory.
     pub fn with_room(alloc: Global, room: usize) -> Result<Self, NoMemory>
         ensures { IfOk result (λ list. list ≡ record { items = []; room = room }) }
     {

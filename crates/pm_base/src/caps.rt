@@ -26,14 +26,17 @@ impl Flags for Caps {
 
     ghost set_of = { λ caps. caps.0 };
 
+    /// The capabilities with names (UG1200, PM_CAP_ACCESS, PM_CAP_CONTEXT, PM_CAP_WAKEUP).
     fn flags<'a>() -> &'a [Flag<Caps>] {
         Caps::FLAGS
     }
 
+    /// The set as the word that messages and objects have.
     fn bits(&self) -> u32 {
         self.0
     }
 
+    /// The set of a word, also with bits that name no capability.
     fn from_bits_retain(bits: u32) -> Caps {
         Caps(bits)
     }

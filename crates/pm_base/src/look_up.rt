@@ -2,7 +2,7 @@
 
 ghost use Rattle.std.specs.Prelude.{◌≡◌, slice_get, unwrap_or};
 
-/// The item at a place, counted from 0, or this one where the list has no such place.
+/// The item at a place, counted from 0, or this one if the list has no such place.
 pub fn at_or<T: Copy>(items: &[T], place: usize, otherwise: T) -> T
     ensures { result ≡ unwrap_or (slice_get items.now place) otherwise }
 {
