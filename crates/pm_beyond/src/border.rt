@@ -35,11 +35,11 @@ pub(crate) fn place_of(object: &Object, m: NodeId) -> Option<usize>
         .position(|master| master.node == m.0)
 }
 
-/// The paths that lead from the master at a place, by what at least one of the objects permits: none where there is no place.
+/// The paths that lead from the master at a place, by what at least one of the objects permits: none if there is no place.
 ///
 /// # Errors
 ///
-/// `NoMemory` where there is not enough memory.
+/// `NoMemory` if there is not enough memory.
 pub(crate) fn paths_from(
     alloc: Global,
     objects: &[Object],

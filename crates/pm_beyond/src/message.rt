@@ -44,7 +44,7 @@ fn is_beyond_by(
 ///
 /// # Errors
 ///
-/// `NoMemory` where there is not enough memory.
+/// `NoMemory` if there is not enough memory.
 pub fn is_message_beyond(
     alloc: Global,
     objects: &[Object],
