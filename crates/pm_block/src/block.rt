@@ -12,7 +12,7 @@ use std::marker::Model;
 /// How many different addresses have something attached.
 const MOST_ATTACHED: usize = 16;
 
-/// How many words of an address are kept: one more than an object has, so that it is seen where there are too many.
+/// How many words of an address are kept: one more than an object has, so that it is seen if there are too many.
 const MOST_KEPT: usize = MOST_WORDS as usize + 1;
 
 /// The words at an address.
@@ -23,7 +23,7 @@ pub struct Piece {
 }
 
 /// What lines attach. Contracts see the words that are kept at each address, in the order in which the addresses came
-/// first. Where these are what is kept of the pieces that the lines make, it answers as they say.
+/// first. If these are what is kept of the pieces that the lines make, it answers as they say.
 #[derive(Debug, Drop)]
 pub struct Block {
     pieces: Vec<Piece>,
@@ -68,7 +68,7 @@ impl Block {
     ///
     /// # Errors
     ///
-    /// `NoMemory` where there is not enough memory.
+    /// `NoMemory` if there is not enough memory.
     pub fn add(&mut self, alloc: Global, address: u32, words: &Words) -> Result<(), NoMemory>
         ensures { OnOk result ((pieces : Sequence Piece) → self.old ≡ map kept pieces
             → self.new ≡ map kept (with_words address words.now pieces)) }
@@ -97,7 +97,7 @@ impl Block {
     ///
     /// # Errors
     ///
-    /// `NoMemory` where there is not enough memory.
+    /// `NoMemory` if there is not enough memory.
     pub fn attached(&self, alloc: Global) -> Result<List<Attached>, NoMemory>
         ensures { IfOk result (λ attached. (pieces : Sequence Piece) → self.now ≡ map kept pieces
             → attached ≡ map attached_in pieces) }
