@@ -35,7 +35,7 @@ pub record WasRunOver {D : Type 0} (d : Device.Ghosts D) (object : Object) (scri
   pub drove : Drove d (setup_for object chip events) (script_driven object chip answers events) before after
   pub whole : text ≡ script_text object chip no_board answers events
 
--- the same, where the object is that of these bytes
+-- that run, of the object of these bytes
 abbrev pub WasRun : {D : Type 0} → Device.Ghosts D → List ℕ → List ℕ → List ℕ → Type 0
 WasRun d object_bytes script_bytes text = (object : Object) × Reads object_bytes object × WasRunOver d object script_bytes text
 

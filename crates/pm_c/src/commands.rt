@@ -10,7 +10,7 @@ use pm_slot::Slot;
 use std::alloc::Global;
 
 /// The command that waits for its answer: the next one of the step, and the same one until it is answered. Answers
-/// `DONE`; `NO_COMMAND` where the step is over; `NO_MEMORY`; and `CLOSED`. Nothing changes.
+/// `DONE`; `NO_COMMAND` if the step is over; `NO_MEMORY`; and `CLOSED`. Nothing changes.
 #[unsafe(no_mangle)]
 pub extern "C" fn pmu_next(alloc: Global, pmu: &mut Slot, command: &mut UnitCommand) -> u32
     ensures kept { inside pmu.new.held ≡ inside pmu.old.held }
@@ -24,7 +24,7 @@ pub extern "C" fn pmu_next(alloc: Global, pmu: &mut Slot, command: &mut UnitComm
 }
 
 /// What became of the command that waits: the device took it, or failed it. Then the next one waits. Answers `DONE`;
-/// `NO_COMMAND` where none waits; `NO_MEMORY`; and `CLOSED`. But for `DONE` nothing changes.
+/// `NO_COMMAND` if none waits; `NO_MEMORY`; and `CLOSED`. But for `DONE` nothing changes.
 #[unsafe(no_mangle)]
 pub extern "C" fn pmu_done(alloc: Global, pmu: &mut Slot, ok: bool) -> u32
     ensures done { result ≡ 0 → Leads (TakesAnswer ok) pmu.old.held pmu.new.held }

@@ -29,6 +29,7 @@ pub fn read_settled(alloc: Global, pmu: &mut Slot, settled: &mut bool) -> u32
     code
 }
 
+/// Leaves whether the device took the book's value for each unit. CLOSED if there is no controller.
 fn settled_held(held: &Held, settled: &mut bool) -> u32
     ensures done { result ≡ 0 → Holds (λ c. settled.new ≡ is_settled c) held.now }
     ensures untold { 0 < result → settled.new ≡ settled.old }
@@ -42,7 +43,7 @@ fn settled_held(held: &Held, settled: &mut bool) -> u32
     DONE
 }
 
-/// The value of a node in the book. Answers `DONE`; `NO_NODE` where the chip has no such node; `NO_MEMORY`; and `CLOSED`.
+/// The value of a node in the book. Answers `DONE`; `NO_NODE` if the chip has no such node; `NO_MEMORY`; and `CLOSED`.
 /// Nothing changes.
 pub fn read_value(alloc: Global, pmu: &mut Slot, node: NodeId, value: &mut u32) -> u32
     ensures kept { inside pmu.new.held ≡ inside pmu.old.held }
@@ -60,6 +61,7 @@ pub fn read_value(alloc: Global, pmu: &mut Slot, node: NodeId, value: &mut u32) 
     code
 }
 
+/// Leaves the book's value of a node. NO_NODE if the chip has no such node, CLOSED if there is no controller.
 fn value_held(held: &Held, node: NodeId, value: &mut u32) -> u32
     ensures done { result ≡ 0 → Holds (λ c. value_of node c ≡ Some value.new) held.now }
     ensures unknown { result ≡ 18 → Holds (λ c. value_of node c ≡ None) held.now }
@@ -96,6 +98,7 @@ pub fn read_mode(alloc: Global, pmu: &mut Slot, proc: NodeId, mode: &mut u32) ->
     code
 }
 
+/// Leaves the mode of a processor. NO_NODE if the chip has no such processor, CLOSED if there is no controller.
 fn mode_held(held: &Held, proc: NodeId, mode: &mut u32) -> u32
     ensures done { result ≡ 0 → Holds (λ c. option_map mode_number (mode_of proc c) ≡ Some mode.new) held.now }
     ensures unknown { result ≡ 18 → Holds (λ c. mode_of proc c ≡ None) held.now }
@@ -115,6 +118,7 @@ fn mode_held(held: &Held, proc: NodeId, mode: &mut u32) -> u32
     }
 }
 
+/// The number of a mode in `pmu.h` (as in the closing table of a run).
 fn mode_number(mode: Mode) -> u32
     ensures { result ≡ mode_number mode }
 {
@@ -136,7 +140,7 @@ pub struct StatusWords {
     pub usage: u32,
 }
 
-/// The status of a node, as GET_NODE_STATUS tells it to a master. Answers `DONE`; `NO_NODE` where the chip has no such node or
+/// The status of a node, as GET_NODE_STATUS tells it to a master. Answers `DONE`; `NO_NODE` if the chip has no such node or
 /// the object no such master; `NO_MEMORY`; and `CLOSED`. Nothing changes.
 pub fn read_status(
     alloc: Global,
@@ -160,6 +164,8 @@ pub fn read_status(
     code
 }
 
+/// Leaves what GET_NODE_STATUS tells a master of a node. NO_NODE if the chip has no such node or the object no such
+/// master, CLOSED if there is no controller.
 fn status_held(held: &Held, master: NodeId, node: NodeId, status: &mut StatusWords) -> u32
     ensures done { result ≡ 0 → Holds (IsStatus master node status.new) held.now }
     ensures unknown { result ≡ 18 → Holds (HasNoStatus master node) held.now }
@@ -179,6 +185,7 @@ fn status_held(held: &Held, master: NodeId, node: NodeId, status: &mut StatusWor
     }
 }
 
+/// The words of a node's status: state or value, own requirement, usage (UG1200, PM_GET_NODE_STATUS).
 fn status_words(status: NodeStatus) -> StatusWords
     ensures { result ≡ status_words status }
 {
@@ -213,6 +220,8 @@ pub fn read_beyond(
     code
 }
 
+/// Leaves whether a message of `sender` is beyond the reach of the master `of`. Its answers are those of
+/// `pmu_is_beyond`.
 fn beyond_held(
     alloc: Global,
     held: &Held,

@@ -15,7 +15,7 @@ use pm_slot::Slot;
 use std::alloc::Global;
 
 /// The lines of the last step, with this number before each, are written to `text`, of which the first `written` bytes are
-/// written then. Answers `DONE`; `NO_ROOM` where they don't fit, and then as many bytes as fit; `COMMAND_LEFT` where the step
+/// written then. Answers `DONE`; `NO_ROOM` if they don't fit, and then as many bytes as fit; `COMMAND_LEFT` if the step
 /// isn't over; `NO_MEMORY`; and `CLOSED`. Nothing else changes.
 #[unsafe(no_mangle)]
 pub extern "C" fn pmu_text(
@@ -49,7 +49,7 @@ pub extern "C" fn pmu_is_settled(alloc: Global, pmu: &mut Slot, settled: &mut bo
     read_settled(alloc, pmu, settled)
 }
 
-/// The value of a node in the book. Answers `DONE`; `NO_NODE` where the chip has no such node; `NO_MEMORY`; and `CLOSED`.
+/// The value of a node in the book. Answers `DONE`; `NO_NODE` if the chip has no such node; `NO_MEMORY`; and `CLOSED`.
 /// Nothing changes.
 #[unsafe(no_mangle)]
 pub extern "C" fn pmu_value(alloc: Global, pmu: &mut Slot, node: u32, value: &mut u32) -> u32
@@ -77,7 +77,7 @@ pub extern "C" fn pmu_mode(alloc: Global, pmu: &mut Slot, proc: u32, mode: &mut 
     read_mode(alloc, pmu, NodeId(proc), mode)
 }
 
-/// The status of a node, as GET_NODE_STATUS (UG1200) tells it to a master, without a message. Answers `DONE`; `NO_NODE` where
+/// The status of a node, as GET_NODE_STATUS (UG1200) tells it to a master, without a message. Answers `DONE`; `NO_NODE` if
 /// the chip has no such node or the object no such master; `NO_MEMORY`; and `CLOSED`. Nothing changes.
 #[unsafe(no_mangle)]
 pub extern "C" fn pmu_node_status(

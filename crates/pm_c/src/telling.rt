@@ -13,7 +13,7 @@ use pm_trace::TextLine;
 use std::alloc::{AllocError, Global};
 
 /// The lines of the last step, with this number before each, are written to `text`, of which the first `written` bytes are
-/// written then. Answers `DONE`; `NO_ROOM` where they don't fit, and then as many bytes as fit; `COMMAND_LEFT` where the step
+/// written then. Answers `DONE`; `NO_ROOM` if they don't fit, and then as many bytes as fit; `COMMAND_LEFT` if the step
 /// isn't over; `NO_MEMORY`; and `CLOSED`. Nothing else changes.
 pub fn write_text(
     alloc: Global,
@@ -39,6 +39,8 @@ pub fn write_text(
     code
 }
 
+/// Writes the text of the last step into `text`, each line after `number`, and leaves how many bytes it has. NO_ROOM
+/// if it doesn't fit, COMMAND_LEFT if a command waits, CLOSED if there is no controller.
 fn write_held(alloc: Global, held: &Held, number: u32, text: &mut [u8], written: &mut usize) -> u32
     requires { written.old ≤ length text.old }
     ensures done { result ≡ 0 → Holds (λ c. take written.new text.new ≡ text_of number c) held.now }
