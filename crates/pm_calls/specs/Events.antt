@@ -36,7 +36,7 @@ abbrev pub wait_by : Option ℕ → ℕ → Processor → List (List Prim)
 wait_by None p proc = []
 wait_by (Some m) p proc = waits m p proc.address proc.mode
 
--- the same by the kind of the node: only a processor boots and waits
+-- a boot by the kind of the node: only a processor boots and waits
 abbrev pub boot_at : Kind → ℕ → State → List (List Prim)
 boot_at (Proc p) address book =
     boot_by (owner_at book.fixed.object book.fixed.topology p) p address (proc_at p book.now.core.procs)

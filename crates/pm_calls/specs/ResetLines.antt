@@ -19,7 +19,7 @@ abbrev pub owned_by : Option ℕ → ℕ → Option OwnedProc
 owned_by None p = None
 owned_by (Some m) p = Some (record { owner = m; proc = p })
 
--- the same for a node of this kind: a slave and a power node is no processor
+-- the owned processor that a node of this kind is: a slave and a power node is none
 abbrev pub owned_of : Kind → Fixed → Option OwnedProc
 owned_of (Proc p) fixed = owned_by (owner_at fixed.object fixed.topology p) p
 owned_of _ fixed = None

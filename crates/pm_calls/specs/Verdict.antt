@@ -38,7 +38,7 @@ pulsing line = record { words = 0 ∷ 0 ∷ 0 ∷ []; says = None; pulse = line 
 abbrev pub staged : Checks → List (List Prim) → Called
 staged checks stages = record { checks = checks; stages = stages; effects = saying None }
 
--- the same in one stage
+-- a call that changes the book in one stage, and does nothing else
 abbrev pub changing : Checks → List Prim → Called
 changing checks changes = staged checks (changes ∷ [])
 

@@ -48,7 +48,7 @@ abbrev pub own_proc : ℕ → ℕ → State → Option Processor
 own_proc m p book =
     if owns book.fixed.object book.fixed.topology m p then Some (proc_at p book.now.core.procs) else None
 
--- the same for a node of this kind
+-- what a master sees of a node of this kind as of a processor
 abbrev pub proc_view_at : ℕ → Kind → State → ProcView
 proc_view_at m (Proc p) book = record { place = Some p; own = own_proc m p book }
 proc_view_at m _ book = record { place = None; own = None }

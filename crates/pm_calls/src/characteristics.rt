@@ -45,6 +45,7 @@ fn in_state(slave: &SlaveDef, state: u32) -> Characteristics
     }
 }
 
+/// The power figure and the latency of the slave at a place in one of its states, if there is such a slave.
 fn slave_has(slaves: &[SlaveDef], place: usize, state: u32) -> Option<Characteristics>
     ensures { result ≡ option_map (λ (slave : Slave). in_state (slice_get slave.states state))
         (slice_get slaves.now place) }
@@ -55,7 +56,7 @@ fn slave_has(slaves: &[SlaveDef], place: usize, state: u32) -> Option<Characteri
     }
 }
 
-/// What a node has in the value that is kept, where the chip has it.
+/// What a node has in the value that is kept, if the chip has it.
 pub(crate) fn characteristics_of(
     tables: &Tables,
     caches: &Caches,

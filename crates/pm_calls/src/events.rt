@@ -11,7 +11,7 @@ use pm_rows::Entry;
 use pm_state::Tables;
 use pm_topology::Kind;
 
-/// A boot loader starts a processor that is off, where a configured master has it.
+/// A boot loader starts a processor that is off, if a configured master has it.
 pub fn boot(tables: &mut Tables, node: NodeId, address: u64)
     ensures { tables.new ≡ after_stages (boot node address tables.old) tables.old }
 {
@@ -42,7 +42,7 @@ pub fn wait(tables: &mut Tables, node: NodeId)
     }
 }
 
-/// An interrupt at a processor itself wakes it, where a configured master has it.
+/// An interrupt at a processor itself wakes it, if a configured master has it.
 pub fn interrupt(tables: &mut Tables, node: NodeId)
     ensures { tables.new ≡ after_stages (interrupt node tables.old) tables.old }
 {
@@ -98,7 +98,7 @@ fn wake_node(tables: &mut Tables, m: usize, armed: Option<NodeId>)
     }
 }
 
-/// A processor of a master wakes, where it is asleep or suspending, and keeps its resume address.
+/// A processor of a master wakes, if it is asleep or suspending, and keeps its resume address.
 fn wake(tables: &mut Tables, m: usize, p: usize)
     ensures { tables.new ≡ changed (woken m p (proc_at p tables.old.now.core.procs)) tables.old }
 {

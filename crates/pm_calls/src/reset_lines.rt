@@ -15,8 +15,8 @@ pub struct OwnedProc {
     pub proc: usize,
 }
 
-/// What a master sees of a reset line: its place, where the chip has it, whether the object permits the
-/// master to reset it, and the processor that it resets, where it resets one that a configured master has.
+/// What a master sees of a reset line: its place, if the chip has it, whether the object permits the
+/// master to reset it, and the processor that it resets, if it resets one that a configured master has.
 #[derive(Clone, Copy, Debug, PartialEq, Eq)]
 pub struct LineView {
     pub place: Option<usize>,
@@ -24,18 +24,22 @@ pub struct LineView {
     pub target: Option<OwnedProc>,
 }
 
+/// The reset line at a place, if there is one.
 fn line_at(lines: &[LineDef], place: usize) -> Option<LineDef>
     ensures { result ≡ slice_get lines.now place }
 {
     lines.get(place).copied()
 }
 
+/// The place of a reset line, if the chip has it.
 fn line_place(tables: &Tables, line: LineId) -> Option<usize>
     ensures { result ≡ line_place line tables.now.fixed }
 {
     tables.topology().line_place(line)
 }
 
+/// What the calls on reset lines read of one: its place, whether the caller may reset it, and whose processor it
+/// resets.
 pub(crate) fn line_view(tables: &Tables, master: usize, line: LineId) -> LineView
     ensures { result ≡ line_view master line tables.now }
 {
@@ -57,7 +61,7 @@ fn can_reset(tables: &Tables, master: usize, place: Option<usize>) -> bool
     }
 }
 
-/// The processor that the line at a place resets, where it resets one that a configured master has.
+/// The processor that the line at a place resets, if it resets one that a configured master has.
 fn reset_at(tables: &Tables, place: Option<usize>) -> Option<OwnedProc>
     ensures { result ≡ reset_at place tables.now.fixed }
 {
@@ -65,12 +69,14 @@ fn reset_at(tables: &Tables, place: Option<usize>) -> Option<OwnedProc>
     owned_node(tables, line.target)
 }
 
+/// The processor that a target is, with its owner, if a configured master has it.
 fn owned_node(tables: &Tables, target: Option<NodeId>) -> Option<OwnedProc>
     ensures { result ≡ owned_node target tables.now.fixed }
 {
     owned_of(tables, tables.kind(target?))
 }
 
+/// The processor of a node of this kind, with its owner, if a configured master has it.
 fn owned_of(tables: &Tables, kind: Kind) -> Option<OwnedProc>
     ensures { result ≡ owned_of kind tables.now.fixed }
 {
@@ -80,7 +86,7 @@ fn owned_of(tables: &Tables, kind: Kind) -> Option<OwnedProc>
     }
 }
 
-/// The value of a reset line, where the chip has it.
+/// The value of a reset line, if the chip has it.
 pub(crate) fn line_status(tables: &Tables, line: LineId) -> Option<u32>
     ensures { result ≡ line_status line tables.now }
 {
@@ -88,6 +94,7 @@ pub(crate) fn line_status(tables: &Tables, line: LineId) -> Option<u32>
     Some(tables.resets().value(place))
 }
 
+/// The processor with its owner, if it has one.
 fn owned_by(owner: Option<usize>, p: usize) -> Option<OwnedProc>
     ensures { result ≡ owned_by owner p }
 {

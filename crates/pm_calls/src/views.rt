@@ -14,8 +14,8 @@ use pm_state::{Tables, master_node};
 use pm_topology::Kind;
 use pm_values::{Caches, value};
 
-/// What a master sees of its row on a slave: the slave's place, the row where the pair is permitted,
-/// and the other master that uses the slave where it can't be shared.
+/// What a master sees of its row on a slave: the slave's place, the row if the pair is permitted,
+/// and the other master that uses the slave if it can't be shared.
 #[derive(Clone, Copy, Debug, PartialEq, Eq)]
 pub struct RowView {
     pub slave: Option<usize>,
@@ -25,7 +25,7 @@ pub struct RowView {
 
 /// What a master is told of a node: its operating point, and for a slave the capabilities that the master
 /// wants of it now and who uses it (0 nobody, 1 only the master, 2 only others, 3 both). There is no
-/// state where no node has the number.
+/// state if no node has the number.
 #[derive(Clone, Copy, Debug, PartialEq, Eq)]
 pub struct StatusView {
     pub state: Option<u32>,
@@ -33,8 +33,8 @@ pub struct StatusView {
     pub usage: u32,
 }
 
-/// What a master sees of a processor: its place, where the node is one, and its mode and resume address
-/// where it is the master's own.
+/// What a master sees of a processor: its place, if the node is one, and its mode and resume address
+/// if it is the master's own.
 #[derive(Clone, Copy, Debug, PartialEq, Eq)]
 pub struct ProcView {
     pub place: Option<usize>,
@@ -48,8 +48,8 @@ pub struct Wakeable {
     pub proc: Proc,
 }
 
-/// What a master sees of a processor that it wants to wake: its place, where the node is one, and the
-/// processor where the master may wake it.
+/// What a master sees of a processor that it wants to wake: its place, if the node is one, and the
+/// processor if the master may wake it.
 #[derive(Clone, Copy, Debug, PartialEq, Eq)]
 pub struct WakeView {
     pub place: Option<usize>,
@@ -67,7 +67,7 @@ pub struct Suspendable {
 }
 
 /// What a master sees of one that it asks to suspend: whether the node can name a master, and the master
-/// that it names where that may be asked.
+/// that it names if that may be asked.
 #[derive(Clone, Copy, Debug, PartialEq, Eq)]
 pub struct SuspendView {
     pub named: bool,
@@ -83,6 +83,7 @@ pub enum Watched {
     SlaveNode { permitted: bool },
 }
 
+/// What a row requires now: nothing if there is no row or it isn't used.
 fn now_of(entry: Option<Entry>) -> Caps
     ensures { result ≡ now_of entry }
 {
@@ -102,6 +103,7 @@ pub(crate) fn rival_node(tables: &Tables, master: usize, slave: usize) -> Option
     }
 }
 
+/// What a call reads of a processor: its place, and its state if it is the caller's.
 #[inline(always)]
 pub(crate) fn proc_view(tables: &Tables, master: usize, node: NodeId) -> ProcView
     ensures { result ≡ proc_view master node tables.now }
@@ -118,6 +120,7 @@ pub(crate) fn proc_view(tables: &Tables, master: usize, node: NodeId) -> ProcVie
     }
 }
 
+/// The state of the processor at a place, if the master has it.
 fn own_proc(tables: &Tables, master: usize, p: usize) -> Option<Proc>
     ensures { result ≡ own_proc master p tables.now }
 {
@@ -128,6 +131,7 @@ fn own_proc(tables: &Tables, master: usize, p: usize) -> Option<Proc>
     }
 }
 
+/// What REQUEST_WAKEUP reads of a processor: its place, and its state if the caller may wake it.
 pub(crate) fn wake_view(tables: &Tables, master: usize, node: NodeId) -> WakeView
     ensures { result ≡ wake_view master node tables.now }
 {
@@ -143,6 +147,7 @@ pub(crate) fn wake_view(tables: &Tables, master: usize, node: NodeId) -> WakeVie
     }
 }
 
+/// The processor at a place with its owner, if it has one and the master may wake that.
 fn wake_target(tables: &Tables, master: usize, p: usize, owner: Option<usize>) -> Option<Wakeable>
     ensures { result ≡ wakeable master p owner tables.now }
 {
@@ -164,6 +169,7 @@ fn can_wake(tables: &Tables, master: usize, owner: usize) -> bool
     owner == master || tables.grants().permits_wake(master, owner)
 }
 
+/// The timeout of the master at a place, in units of the script's time; 0 if there is no such master.
 fn master_timeout(masters: &[MasterRec], place: usize) -> u32
     ensures { result ≡ Views.master_timeout masters.now place }
 {
@@ -177,6 +183,7 @@ pub(crate) fn is_asked(tables: &Tables, m: usize) -> bool
     tables.procs().pending(m).is_some()
 }
 
+/// What REQUEST_SUSPEND reads: whether the node names a master, and that master if the caller may suspend it.
 pub(crate) fn suspend_view(tables: &Tables, master: usize, node: NodeId) -> SuspendView
     ensures { result ≡ suspend_view master node tables.now }
 {
@@ -193,6 +200,7 @@ fn names_master(tables: &Tables, node: NodeId) -> bool
     matches!(tables.kind(node), Kind::Proc(_)) || is_master_node(node.0)
 }
 
+/// What is asked of the master at a place, if there is one and the caller may suspend it.
 fn suspend_target(tables: &Tables, master: usize, target: Option<usize>) -> Option<Suspendable>
     ensures { result ≡ suspendable master target tables.now }
 {
@@ -204,6 +212,7 @@ fn suspend_target(tables: &Tables, master: usize, target: Option<usize>) -> Opti
     }
 }
 
+/// The mode of the master at a place, whether a request is pending on it, and its timeout by the object in force.
 fn suspendable_at(tables: &Tables, target: usize) -> Suspendable
     ensures { result ≡ suspendable_at target tables.now }
 {
@@ -222,6 +231,7 @@ fn can_suspend(tables: &Tables, master: usize, target: usize) -> bool
     tables.grants().permits_suspend(master, target)
 }
 
+/// What REGISTER_NOTIFIER reads of a node: of a slave whether the caller may use it.
 pub(crate) fn watched_node(tables: &Tables, master: usize, node: NodeId) -> Watched
     ensures { result ≡ watched master node tables.now }
 {
@@ -245,6 +255,7 @@ fn plain(value: u32) -> StatusView
     }
 }
 
+/// What GET_NODE_STATUS reads of a node (UG1200, PM_GET_NODE_STATUS).
 pub(crate) fn status_view(
     tables: &Tables,
     caches: &Caches,

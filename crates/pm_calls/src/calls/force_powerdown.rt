@@ -72,6 +72,7 @@ fn force(tables: &mut Tables, node: NodeId, along: &mut Along)
     tables.follow();
 }
 
+/// Whether a node is of a kind that can be forced down: a processor or a power node (UG1200, PM_FORCE_POWERDOWN).
 fn can_be_forced(kind: Kind) -> bool
     ensures { result ≡ can_be_forced kind }
 {

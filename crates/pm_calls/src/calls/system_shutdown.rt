@@ -22,7 +22,7 @@ const RESTART: u32 = 1;
 const SCOPE: u32 = 2;
 
 /// The caller's processors, or all, go off. The caller restarts with its first processor, and all of it
-/// with the book at load; where all is shut down the book is halted.
+/// with the book at load; if all is shut down the book is halted.
 pub fn serve(
     tables: &mut Tables,
     master: usize,
@@ -68,7 +68,7 @@ fn permits_shutdown(tables: &Tables, master: usize, subtype: u32) -> bool
     tables.grants().permits_shut(master, subtype)
 }
 
-/// A master's processors go off, and then its first one starts, where it restarts. The modes are logged
+/// A master's processors go off, and then its first one starts, if it restarts. The modes are logged
 /// between the stages.
 fn shut_own(tables: &mut Tables, m: usize, restarts: bool, along: &mut Along)
     requires { along.old ≡ trail_from tables.old }
