@@ -9,9 +9,9 @@ ghost use Rattle.pm_causes.specs.Caused.{HasCauses, HaveCauses};
 
 /// Which answer an event gets in a book, and why: the answer that the step gives, before any command goes to a device.
 ///
-/// The sender of a message gets Drop exactly where nobody hears it. Nothing is answered exactly where the event is no message,
+/// The sender of a message gets Drop exactly if nobody hears it. Nothing is answered exactly if the event is no message,
 /// or one that is heard and is an accepted request to suspend or has acknowledge kind 1. Any other message that is heard is
-/// told the status of its call, and each status has its causes: it comes exactly where they are the first of the seven
+/// told the status of its call, and each status has its causes: it comes exactly if they are the first of the seven
 /// checks of the call that fails, whichever master calls.
 pub fn answers_have_causes()
     ensures { (event : Event) (book : State) → HasCauses event book (answer_to event book) }
