@@ -67,7 +67,7 @@ static GROUPS: [Group; 32] = [
 ///
 /// # Errors
 ///
-/// `NoMemory` where there is not enough memory.
+/// `NoMemory` if there is not enough memory.
 #[tactic(auto, using(crate::proofs::ChipLaw::chip_sound), unfolding(crate::specs::Chip::chip))]
 pub fn zynqmp(alloc: Global) -> Result<Topology, NoMemory>
     ensures table { IfOk result (λ topology. topology ≡ chip) }
@@ -89,6 +89,7 @@ pub fn zynqmp(alloc: Global) -> Result<Topology, NoMemory>
     })
 }
 
+/// The power nodes: each after its parent.
 fn powers(alloc: Global) -> Result<List<PowerDef>, NoMemory>
     ensures { IfOk result (λ list. list ≡ powers) }
 {
@@ -115,6 +116,7 @@ fn power(number: u32, parent: Option<usize>, held: bool, figure: u32, latency: u
     }
 }
 
+/// The processors by rising number.
 fn procs(alloc: Global) -> Result<List<ProcDef>, NoMemory>
     ensures { IfOk result (λ list. list ≡ procs) }
 {
@@ -141,6 +143,7 @@ fn proc(number: u32, parent: usize, figure: u32, latency: u32) -> ProcDef
     }
 }
 
+/// The slaves by rising number.
 #[tactic(auto, unfolding(crate::specs::Chip::slaves))]
 fn slaves(alloc: Global) -> Result<List<SlaveDef>, NoMemory>
     ensures { IfOk result (λ list. list ≡ slaves) }
@@ -148,6 +151,7 @@ fn slaves(alloc: Global) -> Result<List<SlaveDef>, NoMemory>
     slaves_of(alloc, &GROUPS)
 }
 
+/// The slaves of these groups, one group after another.
 fn slaves_of(alloc: Global, groups: &[Group]) -> Result<List<SlaveDef>, NoMemory>
     ensures { IfOk result (λ list. list ≡ flat_map slaves_in groups.now) }
 {
@@ -184,6 +188,7 @@ fn lines(alloc: Global, procs: &[ProcDef], slaves: &[SlaveDef]) -> Result<List<L
     Ok(lines)
 }
 
+/// A reset line for each processor, with its number.
 fn proc_lines(alloc: Global, procs: &[ProcDef]) -> Result<List<LineDef>, NoMemory>
     ensures { IfOk result (λ list. list ≡ map (λ p. line_of p.node) procs.now) }
 {

@@ -43,6 +43,7 @@ pub(crate) fn states(alloc: Global, class: Class) -> Result<List<SlaveState>, No
     }
 }
 
+/// Off, kept, on; it needs power unless it is off.
 fn memory_states(alloc: Global) -> Result<List<SlaveState>, NoMemory>
     ensures { IfOk result (λ list. list ≡ states_of Class.Memory) }
 {
@@ -54,6 +55,7 @@ fn memory_states(alloc: Global) -> Result<List<SlaveState>, NoMemory>
     list_of(alloc, &states)
 }
 
+/// Off, kept, on; it needs power only if it is on, since it keeps itself.
 fn dram_states(alloc: Global) -> Result<List<SlaveState>, NoMemory>
     ensures { IfOk result (λ list. list ≡ states_of Class.Dram) }
 {
@@ -65,6 +67,7 @@ fn dram_states(alloc: Global) -> Result<List<SlaveState>, NoMemory>
     list_of(alloc, &states)
 }
 
+/// Off, and on with wake-up.
 fn peripheral_states(alloc: Global) -> Result<List<SlaveState>, NoMemory>
     ensures { IfOk result (λ list. list ≡ states_of Class.Peripheral) }
 {
@@ -75,6 +78,7 @@ fn peripheral_states(alloc: Global) -> Result<List<SlaveState>, NoMemory>
     list_of(alloc, &states)
 }
 
+/// Off, and on without wake-up.
 fn block_states(alloc: Global) -> Result<List<SlaveState>, NoMemory>
     ensures { IfOk result (λ list. list ≡ states_of Class.Block) }
 {
@@ -85,6 +89,7 @@ fn block_states(alloc: Global) -> Result<List<SlaveState>, NoMemory>
     list_of(alloc, &states)
 }
 
+/// On with wake-up, without power.
 fn external_states(alloc: Global) -> Result<List<SlaveState>, NoMemory>
     ensures { IfOk result (λ list. list ≡ states_of Class.External) }
 {
