@@ -30,7 +30,7 @@ abbrev pub turn_of : ℕ → Turn → Option ClockChange
 turn_of number turn = change_at number (record { tree = turn.after; told = running turn.before })
 
 -- a clock beyond runs after both lines or after neither, began or ceased to run in both or in neither, and where it runs it has
--- the same divider and the same parent
+-- equal dividers and parents
 pub record IsClockAlike (fixed : Fixed) (border : Border) (x y : Turn) : Type 0 where
   pub runs : (number : ℕ) → IsClockBeyond fixed border number → runs number x.after ≡ runs number y.after
   pub turns : (number : ℕ) → IsClockBeyond fixed border number → turn_of number x ≡ turn_of number y
