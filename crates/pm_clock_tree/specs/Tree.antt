@@ -60,7 +60,7 @@ pub data Runs (tree : Tree) : ℕ → Type 0 where
       → Runs tree p
       → Runs tree def.number
 
--- the same of each clock, by its number: the roots, and then the others, each by those with lower numbers
+-- whether a clock runs, by its number: the roots, and then the others, each by those with lower numbers
 abbrev pub is_running : List Bool → Option ℕ → Bool
 is_running running None = false
 is_running running (Some c) = unwrap_or (slice_get running c) false

@@ -30,6 +30,7 @@ pub(crate) fn is_missing(call: &ClockCall) -> bool
     def_of(call.clock).is_none() && !(is_root(call.clock) && asks_state(call.act))
 }
 
+/// Whether a call asks if a clock runs: the one call that a root answers.
 fn asks_state(act: ClockAct) -> bool
     ensures { result ≡ asks_state act }
 {

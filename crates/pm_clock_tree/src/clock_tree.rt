@@ -36,7 +36,7 @@ pub struct ClockEnd {
 }
 
 /// The clocks of the chip over a book. Contracts see the clock tree, and which clocks ran when they were told of last.
-/// It also keeps which clocks run, so that this is found anew only where an enable, a parent or a root changed.
+/// It also keeps which clocks run, so that this is found anew only if an enable, a parent or a root changed.
 #[derive(Drop)]
 pub struct ClockTree {
     tree: Tree,
@@ -67,7 +67,7 @@ impl ClockTree {
     ///
     /// # Errors
     ///
-    /// `NoMemory` where there is not enough memory.
+    /// `NoMemory` if there is not enough memory.
     pub fn load<S: Scene>(
         alloc: Global,
         masters: &[NodeId],
@@ -111,7 +111,7 @@ impl ClockTree {
 
     /// A step of the book was made, after which it is seen so, and in which these units moved. The enables of masters
     /// that are off are dropped, and those that the object in force doesn't permit any more; `kept` says that there
-    /// are none of the latter. The roots follow their slaves. Where no master that enables a clock is off and no slave
+    /// are none of the latter. The roots follow their slaves. If no master that enables a clock is off and no slave
     /// of a root moved, no clock is looked at.
     pub fn follow<S: Scene>(&mut self, scene: &S, moved: &[Unit], kept: bool)
         requires kept { kept ≡ true → ArePermitted (S.seen scene.now) self.old.tree }
@@ -126,7 +126,7 @@ impl ClockTree {
         }
     }
 
-    /// Whether a clock runs: false where there is no such clock.
+    /// Whether a clock runs: false if there is no such clock.
     pub fn runs(&self, number: u32) -> bool
         ensures runs { result ≡ spec.runs number self.now.tree }
         ensures by_parents { IsTrue result ↔ Runs self.now.tree number }
@@ -136,14 +136,14 @@ impl ClockTree {
         at_or(self.running.as_slice(), number as usize, false)
     }
 
-    /// What a clock divides by, and 0 of a root or where there is no such clock.
+    /// What a clock divides by, and 0 of a root or if there is no such clock.
     pub fn divider(&self, number: u32) -> u32
         ensures { result ≡ spec.divider number self.now.tree }
     {
         self.tree.divider(number)
     }
 
-    /// The index of the parent of a clock, and 0 of a root or where there is no such clock.
+    /// The index of the parent of a clock, and 0 of a root or if there is no such clock.
     pub fn index(&self, number: u32) -> u32
         ensures { result ≡ spec.index number self.now.tree }
     {

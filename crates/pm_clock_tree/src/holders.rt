@@ -40,7 +40,7 @@ impl Holder {
     ///
     /// # Errors
     ///
-    /// `NoMemory` where there is not enough memory.
+    /// `NoMemory` if there is not enough memory.
     pub(crate) fn load(alloc: Global, node: NodeId) -> Result<Holder, NoMemory>
         ensures { IfOk result (λ holder. holder ≡ idle_holder node) }
     {

@@ -27,7 +27,7 @@ pub struct Setting {
 }
 
 /// The masters with what they enable, the settings of the clocks that are no roots, and which roots run. It also keeps
-/// whether there may be an enable, so that where none was made no master is looked at.
+/// whether there may be an enable, so that if none was made no master is looked at.
 #[derive(Drop)]
 pub struct Tree {
     holders: Vec<Holder>,
@@ -65,7 +65,7 @@ impl Tree {
     ///
     /// # Errors
     ///
-    /// `NoMemory` where there is not enough memory.
+    /// `NoMemory` if there is not enough memory.
     pub(crate) fn load<S: Scene>(
         alloc: Global,
         masters: &[NodeId],
@@ -98,14 +98,14 @@ impl Tree {
         self.settings.get(place).copied()
     }
 
-    /// What a clock divides by, and 0 of a root or where there is no such clock.
+    /// What a clock divides by, and 0 of a root or if there is no such clock.
     pub(crate) fn divider(&self, number: u32) -> u32
         ensures { result ≡ spec.divider number self.now }
     {
         self.setting(number).map_or(0, |setting| setting.divider)
     }
 
-    /// The index of the parent of a clock, and 0 of a root or where there is no such clock.
+    /// The index of the parent of a clock, and 0 of a root or if there is no such clock.
     pub(crate) fn index(&self, number: u32) -> u32
         ensures { result ≡ spec.index number self.now }
     {
@@ -188,6 +188,7 @@ impl Tree {
         }
     }
 
+    /// Does what an accepted call of a master does to the clock at a place.
     fn change_at(&mut self, master: NodeId, act: ClockAct, k: usize)
         ensures { self.new ≡ changed master act k self.old }
     {
@@ -201,6 +202,7 @@ impl Tree {
         }
     }
 
+    /// Sets the divider of the clock at a place.
     fn set_divider(&mut self, k: usize, divider: u32)
         ensures { self.new ≡ record self.old { settings = with_setting (with_divider divider) k self.old.settings } }
     {
@@ -209,6 +211,7 @@ impl Tree {
         }
     }
 
+    /// Sets which parent feeds the clock at a place.
     fn set_index(&mut self, k: usize, index: u32)
         ensures { self.new ≡ record self.old { settings = with_setting (with_index index) k self.old.settings } }
     {
@@ -289,6 +292,7 @@ fn first_rival(holders: &[Holder], master: NodeId, k: usize) -> Option<NodeId>
         .map(|holder| holder.node())
 }
 
+/// Whether this is another master, which enables the clock at a place.
 fn is_rival(holder: &Holder, master: NodeId, k: usize) -> bool
     ensures { result ≡ is_rival master k holder.now }
 {
@@ -304,6 +308,8 @@ fn put_enables(holders: &mut [Holder], master: NodeId, k: usize, on: bool)
     }
 }
 
+/// Drops the enables that masters lose: those of one that is off, or that may not use the clock's slave. With `kept`
+/// no permission was lost. Answers whether any may have been dropped.
 #[inline(never)]
 fn settle_holders<S: Scene>(holders: &mut [Holder], scene: &S, kept: bool) -> bool
     requires kept { kept ≡ true → AreHoldersPermitted (S.seen scene.now) holders.old }
@@ -318,6 +324,7 @@ fn settle_holders<S: Scene>(holders: &mut [Holder], scene: &S, kept: bool) -> bo
     changed
 }
 
+/// Whether one of both holds, in a loop that the prover reads.
 fn either(one: bool, other: bool) -> bool
     ensures { result ≡ (one || other) }
 {
@@ -331,6 +338,7 @@ fn has_source(moved: &[Unit]) -> bool
     moved.iter().any(|unit| is_source(*unit))
 }
 
+/// Whether a unit is the slave of a root, a PLL.
 fn is_source(unit: Unit) -> bool
     ensures { result ≡ is_source unit }
 {
