@@ -40,7 +40,7 @@ impl Clocks {
     ///
     /// # Errors
     ///
-    /// `NoMemory` where there is not enough memory.
+    /// `NoMemory` if there is not enough memory.
     pub fn load(alloc: Global, book: &Book) -> Result<Clocks, NoMemory>
         ensures clocks { IfOk result (λ clocks. clocks ≡ clocks_of book.now) }
         ensures stands { IfOk result (λ clocks. StandsOver book.now clocks.tree) }
@@ -117,7 +117,7 @@ impl Clocks {
         *answer = with_response(response, *answer);
     }
 
-    /// Whether a clock runs, as the book was that `load` or `answer` was last given: false where there is no such clock.
+    /// Whether a clock runs, as the book was that `load` or `answer` was last given: false if there is no such clock.
     pub fn runs(&self, number: u32) -> bool
         ensures runs { result ≡ spec.runs number self.now.tree }
         ensures by_parents { IsTrue result ↔ Runs self.now.tree number }
@@ -125,14 +125,14 @@ impl Clocks {
         self.tree.runs(number)
     }
 
-    /// What a clock divides by, and 0 of a root or where there is no such clock.
+    /// What a clock divides by, and 0 of a root or if there is no such clock.
     pub fn divider(&self, number: u32) -> u32
         ensures { result ≡ spec.divider number self.now.tree }
     {
         self.tree.divider(number)
     }
 
-    /// The index of the parent of a clock, and 0 of a root or where there is no such clock.
+    /// The index of the parent of a clock, and 0 of a root or if there is no such clock.
     pub fn index(&self, number: u32) -> u32
         ensures { result ≡ spec.index number self.now.tree }
     {

@@ -20,19 +20,23 @@ impl<'b> Scene for BookScene<'b> {
 
     ghost seen = { λ scene. view_of scene.book.now };
 
+    /// Whether a master is off in the book.
     fn is_off(&self, master: NodeId) -> bool {
         same_mode(self.book.master_mode(master), Mode::Off)
     }
 
+    /// Whether the object in force lets a master use a slave: it has a row then.
     fn may_use(&self, master: NodeId, slave: NodeId) -> bool {
         self.book.row(master, slave).is_some()
     }
 
+    /// Whether a node is a slave in another state than 0.
     fn is_on(&self, slave: NodeId) -> bool {
         is_slave(self.book.topology().kind(slave)) && self.book.value(Unit::Node(slave)) != 0
     }
 }
 
+/// Whether a node is a slave.
 fn is_slave(kind: Kind) -> bool
     ensures { result ≡ is_slave kind }
 {
