@@ -59,7 +59,7 @@ impl Controller {
     ///
     /// # Errors
     ///
-    /// `NoMemory` where there is not enough memory.
+    /// `NoMemory` if there is not enough memory.
     pub fn load(alloc: Global, object: Object, topology: Topology) -> Result<Controller, NoMemory>
         requires formed { IsWellFormed topology }
         ensures loaded { IfOk result (IsLoaded object topology) }
@@ -91,7 +91,7 @@ impl Controller {
         true
     }
 
-    /// The command that waits for its answer: the next one of the step, and the same one until it is answered. `None` where
+    /// The command that waits for its answer: the next one of the step, and the same one until it is answered. `None` if
     /// the step is over.
     pub fn next_command(&self) -> Option<Command>
         ensures waits { result ≡ self.now.waits }
@@ -100,8 +100,8 @@ impl Controller {
         self.waits
     }
 
-    /// What became of the command that waits: the device took it, or it failed. Then the next one waits; where there is none
-    /// the step is over. Answers false, and nothing changes, where no command waits.
+    /// What became of the command that waits: the device took it, or it failed. Then the next one waits; if there is none
+    /// the step is over. Answers false, and nothing changes, if no command waits.
     pub fn command_done(&mut self, ok: bool) -> bool
         ensures waited { result ≡ is_some self.old.waits }
         ensures answered { result ≡ true → TakesAnswer ok self.old self.new }
@@ -144,7 +144,7 @@ impl Controller {
     }
 
     /// The value of a node in the book: the state of a slave, 1 for a processor that is active or suspending and for a power
-    /// node that is up, and else 0. `None` where the chip has no such node.
+    /// node that is up, and else 0. `None` if the chip has no such node.
     pub fn value(&self, node: NodeId) -> Option<u32>
         ensures { result ≡ value_of node self.now }
     {
@@ -156,7 +156,7 @@ impl Controller {
         }
     }
 
-    /// The mode of a processor. `None` where the chip has no such processor.
+    /// The mode of a processor. `None` if the chip has no such processor.
     pub fn mode(&self, proc: NodeId) -> Option<Mode>
         ensures { result ≡ mode_of proc self.now }
     {
@@ -167,7 +167,7 @@ impl Controller {
     }
 
     /// The three words that GET_NODE_STATUS (UG1200) tells a master of a node, without a message: its state, the capabilities
-    /// that the master requires of it, and who uses it. `None` where the chip has no such node, or the object no such master.
+    /// that the master requires of it, and who uses it. `None` if the chip has no such node, or the object no such master.
     pub fn status(&self, master: NodeId, node: NodeId) -> Option<NodeStatus>
         ensures status { result ≡ status_of master node self.now.book }
         ensures told { IfSome result (Tells (master_place master self.now.book) node self.now.book) }
@@ -181,7 +181,7 @@ impl Controller {
     ///
     /// # Errors
     ///
-    /// `NoMemory` where there is not enough memory.
+    /// `NoMemory` if there is not enough memory.
     pub fn is_beyond(
         &self,
         alloc: Global,
@@ -281,7 +281,7 @@ fn begun(book: Book, mut kept: Kept, mut outbox: Outbox) -> Controller
     }
 }
 
-/// Finds the next command of a step. Where none is left the step ends.
+/// Finds the next command of a step. If none is left the step ends.
 fn find(left: &mut Carrying, kept: &mut Kept, book: &Book, out: &mut Outbox) -> Option<Command>
     requires { IsUnderWay book.now kept.old out.old.pulse out.old.done.items left.old }
     ensures stands { Stands result book.now kept.new out.new left.new }

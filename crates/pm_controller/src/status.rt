@@ -20,7 +20,7 @@ pub struct NodeStatus {
     pub usage: u32,
 }
 
-/// What a master is told of a node. `None` where the chip has no such node, or the master isn't configured.
+/// What a master is told of a node. `None` if the chip has no such node, or the master isn't configured.
 pub(crate) fn status_of(book: &Book, master: NodeId, node: NodeId) -> Option<NodeStatus>
     ensures status { result ≡ status_of master node book.now }
     ensures told { IfSome result (Tells (master_place master book.now) node book.now) }
