@@ -33,7 +33,7 @@ pub(crate) fn idle() -> Cell
 ///
 /// # Errors
 ///
-/// `NoMemory` where there is not enough memory.
+/// `NoMemory` if there is not enough memory.
 pub(crate) fn idle_cells(alloc: Global, t: &Topology) -> Result<UnitMap<Cell>, NoMemory>
     ensures entries { IfOk result (λ cells. cells ≡ all_at idle (units_of t.now)) }
     ensures values { IfOk result (λ cells. (unit : Part) → (cell_of cells unit).value ≡ 0) }
@@ -101,7 +101,7 @@ pub(crate) fn set_value(cells: &mut UnitMap<Cell>, unit: Unit, value: u32) -> bo
     true
 }
 
-/// Breaks or mends a node. Nothing changes where it isn't there.
+/// Breaks or mends a node. Nothing changes if it isn't there.
 pub(crate) fn set_broken(cells: &mut UnitMap<Cell>, node: NodeId, broken: bool)
     ensures after { cells.new ≡ set_broken node broken cells.old }
     ensures values { (other : Part) → (cell_of cells.new other).value ≡ (cell_of cells.old other).value }

@@ -4,7 +4,7 @@ use pm_base::{Command, Failed, NoMemory, NodeId};
 use pm_topology::Topology;
 use std::alloc::Global;
 
-/// A device of units: nodes and reset lines. What it shows, where it does: the value of each unit,
+/// A device of units: nodes and reset lines. What it shows, if it does: the value of each unit,
 /// and the units that it has with the list of its broken nodes in rising order.
 pub trait Device {
     ghost use Rattle.std.specs.Prelude.{◌≡◌, IfErr, IfOk, is_ok};
@@ -31,7 +31,7 @@ pub trait Device {
     ///
     /// # Errors
     ///
-    /// `Failed` only where the count of faults rose. No value changed. A device whose broken nodes are
+    /// `Failed` only if the count of faults rose. No value changed. A device whose broken nodes are
     /// observable fails exactly at those, and at units that it doesn't have.
     fn command(&mut self, command: Command) -> Result<(), Failed>
         ensures cause { HasCause (state self.old).faults (state self.new).faults result }
@@ -42,11 +42,11 @@ pub trait Device {
         ensures does { Does (Rig node broken) self.old self.new };
 
     /// Gives the device the units of a chip: it then has exactly these, each stands at 0, and none is broken. Before,
-    /// it stands at 0 where its values are observable. The count of faults stays.
+    /// it stands at 0 if its values are observable. The count of faults stays.
     ///
     /// # Errors
     ///
-    /// `NoMemory` where there is not enough memory. Nothing changed.
+    /// `NoMemory` if there is not enough memory. Nothing changed.
     fn fit(&mut self, alloc: Global, t: &Topology) -> Result<(), NoMemory>
         requires idle { values_observable → (unit : Unit) → (state self.old).value unit ≡ 0 }
         ensures does { IfOk result (λ _. Does (Fit t.now) self.old self.new) }

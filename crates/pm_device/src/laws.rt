@@ -13,7 +13,7 @@ ghost use Rattle.pm_device.specs.Model.{Bench, BenchDoes};
 use crate::device::Device;
 
 /// What a chain of acts leads to is what these acts show one after another: the values, the broken
-/// nodes and the count after them, and that each order is refused exactly where the acts before it
+/// nodes and the count after them, and that each order is refused exactly if the acts before it
 /// left its unit broken or the device lacks it.
 pub fn chain_shows<D: Device>()
     ensures { (acts : List Act) (old new : D) → Chain D.Does acts old new
@@ -38,7 +38,7 @@ pub fn chains_are_logged()
         → new.log ≡ old.log ++ acts }
 {}
 
-/// No order of a chain is refused where the count of faults didn't rise; nor where the device was whole
+/// No order of a chain is refused if the count of faults didn't rise; nor if the device was whole
 /// to an observer, each order is on a unit of the chip, and no act breaks a node.
 pub fn none_is_refused<D: Device>()
     ensures still { (acts : List Act) (old new : D) → Chain D.Does acts old new

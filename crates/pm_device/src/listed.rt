@@ -47,7 +47,7 @@ impl ListedDevice {
     ///
     /// # Errors
     ///
-    /// `NoMemory` where there is not enough memory.
+    /// `NoMemory` if there is not enough memory.
     pub fn new(alloc: Global, t: &Topology, failing: &[u32]) -> Result<ListedDevice, NoMemory>
         ensures fresh { IfOk result (λ device. IsFresh t.now (listed_moment device)) }
         ensures failing { IfOk result (λ device. device.failing ≡ failing.now) }
@@ -102,6 +102,7 @@ impl Device for ListedDevice {
 
     ghost shows = { λ _ _ _ does. does.shows };
 
+    /// Takes a command, or fails it if its number is listed or the unit isn't there, and counts it.
     fn command(&mut self, command: Command) -> Result<(), Failed>
         ensures cause { HasCause self.old.faults self.new.faults result }
         ensures does { ListedDoes (Order command (is_ok result)) self.old self.new }
@@ -115,6 +116,7 @@ impl Device for ListedDevice {
         result
     }
 
+    /// Logs that a node breaks or is mended: which commands fail is listed, so nothing else changes.
     fn rig(&mut self, node: NodeId, broken: bool)
         ensures does { ListedDoes (Rig node broken) self.old self.new }
         ensures after { self.new ≡ listed_by (Rig node broken) self.old }
@@ -122,6 +124,7 @@ impl Device for ListedDevice {
         self.log.push(&Entry::Rig(node, broken));
     }
 
+    /// Gives the device the units of a topology, at 0. `NoMemory` leaves it as it is.
     fn fit(&mut self, alloc: Global, t: &Topology) -> Result<(), NoMemory>
         ensures does { IfOk result (λ _. ListedDoes (Fit t.now) self.old self.new) }
         ensures refused { IfErr result (λ _. self.new ≡ self.old) }

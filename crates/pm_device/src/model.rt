@@ -40,7 +40,7 @@ impl ModelDevice {
     ///
     /// # Errors
     ///
-    /// `NoMemory` where there is not enough memory.
+    /// `NoMemory` if there is not enough memory.
     pub fn new(alloc: Global, t: &Topology) -> Result<ModelDevice, NoMemory>
         ensures fresh { IfOk result (λ device. IsFresh t.now (moment_of device)) }
         ensures whole { IfOk result (λ device. IsWhole t.now (moment_of device)) }
@@ -107,6 +107,7 @@ impl Device for ModelDevice {
 
     ghost shows = { λ _ _ _ does. does.shows };
 
+    /// Takes a command, or fails it if the unit isn't there or is broken.
     fn command(&mut self, command: Command) -> Result<(), Failed>
         ensures cause { HasCause self.old.faults self.new.faults result }
         ensures does { BenchDoes (Order command (is_ok result)) self.old self.new }
@@ -118,6 +119,7 @@ impl Device for ModelDevice {
         result
     }
 
+    /// Breaks a node, or mends it.
     fn rig(&mut self, node: NodeId, broken: bool)
         ensures does { BenchDoes (Rig node broken) self.old self.new }
         ensures after { self.new ≡ bench_by (Rig node broken) self.old }
@@ -126,6 +128,7 @@ impl Device for ModelDevice {
         self.log.push(&Entry::Rig(node, broken));
     }
 
+    /// Gives the device the units of a topology, at 0 and whole. `NoMemory` leaves it as it is.
     fn fit(&mut self, alloc: Global, t: &Topology) -> Result<(), NoMemory>
         ensures does { IfOk result (λ _. BenchDoes (Fit t.now) self.old self.new) }
         ensures refused { IfErr result (λ _. self.new ≡ self.old) }
