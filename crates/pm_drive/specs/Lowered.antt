@@ -44,7 +44,7 @@ is_of_clock note = false
 abbrev pub but_clocks : List Note → List Note
 but_clocks notes = filter (λ note. not (is_of_clock note)) notes
 
--- the same, but for the notes of clocks
+-- what is told of these lines, but for the notes of clocks
 abbrev pub told_but_clocks : List Driven → List (List Word)
 told_but_clocks xs = flat_map (λ (x : Driven). flat_map told_by x.cores ++ map note_words (but_clocks x.line.notes)) xs
 

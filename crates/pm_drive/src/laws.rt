@@ -72,7 +72,7 @@ pub fn clocks_leave_runs()
 {}
 
 /// At the load of a run and after each of its core steps no master that is off enables a clock, each enables only clocks
-/// whose slaves it may use by the object in force, and a clock runs exactly where it is a root whose slave is in a state
+/// whose slaves it may use by the object in force, and a clock runs exactly if it is a root whose slave is in a state
 /// other than 0, or a master enables it and the parent that is chosen for it runs.
 pub fn clocks_are_followed()
     ensures { (c : Setup) (events : List Event) (answers : List (List Bool)) → ClocksStand c (driven c answers events) }
