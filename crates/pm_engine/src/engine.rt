@@ -68,7 +68,7 @@ impl Engine {
     ///
     /// # Errors
     ///
-    /// `NoMemory` where there is not enough memory.
+    /// `NoMemory` if there is not enough memory.
     pub fn load(
         alloc: Global,
         object: Object,
@@ -178,7 +178,7 @@ impl Engine {
         self.runner.next(cores, made)
     }
 
-    /// One core event, the commands that make the device follow the book, and what it does to the clocks. Where the book
+    /// One core event, the commands that make the device follow the book, and what it does to the clocks. If the book
     /// replies to a call on a clock, the clocks' reply stands in place of it.
     #[inline(always)]
     pub fn step<D: Device>(&mut self, event: &Event, dev: &mut D)
@@ -200,7 +200,7 @@ impl Engine {
 ///
 /// # Errors
 ///
-/// `NoMemory` where there is not enough memory.
+/// `NoMemory` if there is not enough memory.
 fn clocks_of(alloc: Global, runner: &Runner) -> Result<Clocks, NoMemory>
     ensures { IfOk result (λ clocks. AreOf runner.now.book clocks) }
 {
@@ -219,7 +219,7 @@ fn answer(clocks: &mut Clocks, event: &Event, runner: &mut Runner)
     clocks.answer(&runner.book, event, &mut runner.outbox);
 }
 
-/// Makes the device follow the book. Where it isn't known that the record marks each unit that lags, each unit is
+/// Makes the device follow the book. If it isn't known that the record marks each unit that lags, each unit is
 /// visited.
 #[inline]
 fn follow<D: Device>(dev: &mut D, kept: &mut Kept, runner: &mut Runner, is_marked: bool)

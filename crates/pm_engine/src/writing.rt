@@ -43,7 +43,7 @@ pub fn write_step<O: Sink>(
     }
 }
 
-/// Writes the lines of a step that is answered so, of which there are so many: at once, where they are few.
+/// Writes the lines of a step that is answered so, of which there are so many: at once, if they are few.
 #[inline(never)]
 fn write_nonempty<O: Sink>(
     number: u32,
