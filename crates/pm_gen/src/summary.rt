@@ -66,7 +66,7 @@ fn counts_of(text: &[u8]) -> Counts
     counts
 }
 
-/// Counts the first line of a text, and answers what stands after it. None where no line is left.
+/// Counts the first line of a text, and answers what stands after it. None if no line is left.
 fn count_first<'t>(counts: &mut Counts, text: &'t [u8]) -> Option<&'t [u8]>
     requires room { HasRoom counts.old }
     ensures counted { MatchOption result ((counts.new ≡ counts.old) × (lines_of text.now ≡ []))
@@ -82,7 +82,7 @@ fn count_first<'t>(counts: &mut Counts, text: &'t [u8]) -> Option<&'t [u8]>
     }
 }
 
-/// Counts the first line of a text, whatever it is, and answers what stands after it. None where no line is left.
+/// Counts the first line of a text, whatever it is, and answers what stands after it. None if no line is left.
 #[inline(never)]
 fn count_split<'t>(counts: &mut Counts, text: &'t [u8]) -> Option<&'t [u8]>
     requires room { HasRoom counts.old }
