@@ -44,7 +44,7 @@ impl Grants {
     ///
     /// # Errors
     ///
-    /// `NoMemory` where there is not enough memory.
+    /// `NoMemory` if there is not enough memory.
     pub fn load(alloc: Global, object: &Object, t: &Topology) -> Result<Grants, NoMemory>
         ensures { IfOk result (λ grants. grants ≡ grants_of object.now t.now) }
     {
@@ -113,12 +113,14 @@ impl Grants {
         self.is_within(master, self.configure)
     }
 
+    /// Whether a mask has the bit of the master at a place.
     fn is_within(&self, master: usize, mask: u32) -> bool
         ensures { result ≡ spec.is_within_mask self.now master mask }
     {
         mask_has(mask, self.bit(master))
     }
 
+    /// The bit of the master at a place (UG1137, IPI mask); 0 if there is no such master.
     fn bit(&self, master: usize) -> u32
         ensures { result ≡ spec.bit_of self.now master }
     {
@@ -128,6 +130,7 @@ impl Grants {
             .map_or(0, |masks| masks.bit)
     }
 
+    /// Whom the master at a place may suspend; 0 if there is no such master.
     fn suspend_mask(&self, master: usize) -> u32
         ensures { result ≡ spec.suspend_mask self.now master }
     {
@@ -137,6 +140,7 @@ impl Grants {
             .map_or(0, |masks| masks.suspend)
     }
 
+    /// Whom the master at a place may wake; 0 if there is no such master.
     fn wake_mask(&self, master: usize) -> u32
         ensures { result ≡ spec.wake_mask self.now master }
     {
@@ -146,6 +150,7 @@ impl Grants {
             .map_or(0, |masks| masks.wake)
     }
 
+    /// Who may force a processor or power node down; of any other node nobody.
     fn force_mask(&self, kind: Kind) -> u32
         ensures { result ≡ spec.force_mask self.now kind }
     {
@@ -156,6 +161,7 @@ impl Grants {
         }
     }
 
+    /// Who may shut down by a subtype: 1 or 2, else nobody.
     fn shut_mask(&self, subtype: u32) -> u32
         ensures { result ≡ spec.shut_mask self.now subtype }
     {
@@ -167,6 +173,7 @@ impl Grants {
     }
 }
 
+/// The masks of the masters, in the object's order.
 fn masters(alloc: Global, records: &[MasterRec]) -> Result<List<MasterMasks>, NoMemory>
     ensures { IfOk result (λ list. list ≡ map master_masks records.now) }
 {
@@ -177,6 +184,7 @@ fn masters(alloc: Global, records: &[MasterRec]) -> Result<List<MasterMasks>, No
     Ok(masks)
 }
 
+/// The masks of a master: its own bit, whom it may suspend, and whom it may wake.
 fn master_masks(entry: &MasterRec) -> MasterMasks
     ensures { result ≡ master_masks entry.now }
 {
@@ -187,6 +195,7 @@ fn master_masks(entry: &MasterRec) -> MasterMasks
     }
 }
 
+/// Who may use each slave, in the topology's order.
 fn slaves(alloc: Global, object: &Object, slaves: &[SlaveDef]) -> Result<List<u32>, NoMemory>
     ensures { IfOk result (λ list. list ≡ map (slave_mask object.now) slaves.now) }
 {
@@ -197,13 +206,14 @@ fn slaves(alloc: Global, object: &Object, slaves: &[SlaveDef]) -> Result<List<u3
     Ok(masks)
 }
 
-/// The mask of the object's record of a slave, and 0 where it has none.
+/// The mask of the object's record of a slave, and 0 if it has none.
 fn slave_mask(object: &Object, slave: &SlaveDef) -> u32
     ensures { result ≡ slave_mask object.now slave.now }
 {
     slave_record(object, slave.node).map_or(0, |entry| entry.mask)
 }
 
+/// Who may force each processor down, in the topology's order.
 fn procs(alloc: Global, pairs: &[Pair], procs: &[ProcDef]) -> Result<List<u32>, NoMemory>
     ensures { IfOk result (λ list. list ≡ map (λ proc. spec.mask_for pairs.now proc.node.0) procs.now) }
 {
@@ -214,6 +224,7 @@ fn procs(alloc: Global, pairs: &[Pair], procs: &[ProcDef]) -> Result<List<u32>, 
     Ok(masks)
 }
 
+/// Who may force each power node down, in the topology's order.
 fn powers(alloc: Global, pairs: &[Pair], powers: &[PowerDef]) -> Result<List<u32>, NoMemory>
     ensures { IfOk result (λ list. list ≡ map (λ power. spec.mask_for pairs.now power.node.0) powers.now) }
 {
@@ -224,6 +235,7 @@ fn powers(alloc: Global, pairs: &[Pair], powers: &[PowerDef]) -> Result<List<u32
     Ok(masks)
 }
 
+/// Who may reset each line, in the topology's order.
 fn lines(alloc: Global, pairs: &[Pair], lines: &[LineDef]) -> Result<List<u32>, NoMemory>
     ensures { IfOk result (λ list. list ≡ map (λ line. spec.mask_for pairs.now line.line.0) lines.now) }
 {
@@ -234,14 +246,14 @@ fn lines(alloc: Global, pairs: &[Pair], lines: &[LineDef]) -> Result<List<u32>, 
     Ok(masks)
 }
 
-/// The record with a key, where there is one.
+/// The record with a key, if there is one.
 fn pair_record(pairs: &[Pair], key: u32) -> Option<Pair>
     ensures { result ≡ pair_record pairs.now key }
 {
     pairs.iter().copied().find(|entry| entry.key == key)
 }
 
-/// The mask of the record with a key, and 0 where there is none.
+/// The mask of the record with a key, and 0 if there is none.
 fn mask_for(pairs: &[Pair], key: u32) -> u32
     ensures { result ≡ spec.mask_for pairs.now key }
 {
