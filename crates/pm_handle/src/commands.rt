@@ -20,7 +20,7 @@ pub struct UnitCommand {
 }
 
 /// The command that waits for its answer: the next one of the step, and the same one until it is answered. Answers
-/// `DONE`; `NO_COMMAND` where the step is over; `NO_MEMORY`; and `CLOSED`. Nothing changes.
+/// `DONE`; `NO_COMMAND` if the step is over; `NO_MEMORY`; and `CLOSED`. Nothing changes.
 pub fn next_command(alloc: Global, pmu: &mut Slot, command: &mut UnitCommand) -> u32
     ensures kept { inside pmu.new.held ≡ inside pmu.old.held }
     ensures done { result ≡ 0 → Holds (IsTold command.new) pmu.old.held }
@@ -37,6 +37,7 @@ pub fn next_command(alloc: Global, pmu: &mut Slot, command: &mut UnitCommand) ->
     code
 }
 
+/// Leaves the command that waits. NO_COMMAND if none does, CLOSED if there is no controller.
 fn next_held(held: &Held, command: &mut UnitCommand) -> u32
     ensures done { result ≡ 0 → Holds (IsTold command.new) held.now }
     ensures over { result ≡ 17 → Holds IsOver held.now }
@@ -56,6 +57,7 @@ fn next_held(held: &Held, command: &mut UnitCommand) -> u32
     }
 }
 
+/// A command as C has it: whether the unit is a reset line, its number, the value.
 fn unit_command(command: Command) -> UnitCommand
     ensures { result ≡ unit_command command.unit command.value }
 {
@@ -71,7 +73,7 @@ fn unit_command(command: Command) -> UnitCommand
 }
 
 /// What became of the command that waits: the device took it, or failed it. Then the next one waits. Answers `DONE`;
-/// `NO_COMMAND` where none waits; `NO_MEMORY`; and `CLOSED`. But for `DONE` nothing changes.
+/// `NO_COMMAND` if none waits; `NO_MEMORY`; and `CLOSED`. But for `DONE` nothing changes.
 pub fn command_done(alloc: Global, pmu: &mut Slot, ok: bool) -> u32
     ensures done { result ≡ 0 → Leads (TakesAnswer ok) pmu.old.held pmu.new.held }
     ensures kept { 0 < result → inside pmu.new.held ≡ inside pmu.old.held }
@@ -87,6 +89,8 @@ pub fn command_done(alloc: Global, pmu: &mut Slot, ok: bool) -> u32
     code
 }
 
+/// Answers the command that waits: whether the device took it. NO_COMMAND if none does, CLOSED if there is no
+/// controller.
 fn done_held(held: &mut Held, ok: bool) -> u32
     ensures done { result ≡ 0 → Leads (TakesAnswer ok) held.old held.new }
     ensures kept { 0 < result → inside held.new ≡ inside held.old }

@@ -28,6 +28,7 @@ pub fn tell(alloc: Global, pmu: &mut Slot, event: Event) -> u32
     code
 }
 
+/// Gives the controller an event. COMMAND_LEFT if a command waits, CLOSED if there is no controller.
 fn tell_held(held: &mut Held, event: &Event) -> u32
     ensures done { result ≡ 0 → Leads (TakesEvent event.now) held.old held.new }
     ensures kept { 0 < result → inside held.new ≡ inside held.old }

@@ -19,7 +19,7 @@ use std::alloc::Global;
 ///
 /// # Errors
 ///
-/// `BAD_OBJECT` where the bytes are no object, and `NO_MEMORY`.
+/// `BAD_OBJECT` if the bytes are no object, and `NO_MEMORY`.
 pub fn open(alloc: Global, object: &[u8]) -> Result<Slot, u32>
     ensures opened { IfOk result (λ slot. Holds (IsOpened object.now) slot.held) }
     ensures refused { IfErr result (IsRefused object.now) }
@@ -42,6 +42,7 @@ fn load(alloc: Global, object: &[u8]) -> Result<Controller, u32>
     }
 }
 
+/// A controller at the load of an object over the chip. NO_MEMORY is its one error.
 fn load_object(alloc: Global, object: Object) -> Result<Controller, u32>
     ensures loaded { IfOk result (IsLoaded object chip) }
     ensures starved { IfErr result (λ code. code ≡ 6) }
@@ -69,7 +70,7 @@ fn keep(alloc: Global, controller: Controller) -> Result<Slot, u32>
     }
 }
 
-/// A value in a box of its own. `None` where there is not enough memory, and then it is dropped.
+/// A value in a box of its own. `None` if there is not enough memory, and then it is dropped.
 fn boxed<T: Drop>(alloc: Global, value: T) -> Option<Box<T>>
     ensures { IfSome result (λ made. made.value ≡ value) }
 {
