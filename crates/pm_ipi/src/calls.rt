@@ -58,7 +58,7 @@ pub enum Call {
         node: NodeId,
         reason: u32,
     },
-    /// The processor wakes, at the address where there is one, and else where it is to resume.
+    /// The processor wakes, at the address if there is one, and else where it is to resume.
     RequestWakeup {
         node: NodeId,
         address: Option<u64>,
@@ -229,7 +229,7 @@ fn wake_address(low: u32, high: u32) -> Option<u64>
     }
 }
 
-/// The acknowledge kind of an argument, where it is one.
+/// The acknowledge kind of an argument, if it is one.
 pub fn ack_kind(word: u32) -> Option<AckKind>
     ensures { result ≡ ack_kind word }
 {
@@ -296,7 +296,7 @@ impl Call {
         }
     }
 
-    /// The node that the acknowledgement of a call names: that of the call, and 0 where the call has no
+    /// The node that the acknowledgement of a call names: that of the call, and 0 if the call has no
     /// acknowledge kind.
     pub fn node(&self) -> NodeId
         ensures { result ≡ node_of self.now }

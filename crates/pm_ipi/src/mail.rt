@@ -62,6 +62,7 @@ impl Mail {
     }
 }
 
+/// An empty box for each master.
 fn empty_boxes(alloc: Global, masters: usize) -> Result<Vec<Option<Message>>, NoMemory>
     ensures { IfOk result (λ boxes. boxes.items ≡ all_empty masters) }
 {
