@@ -52,7 +52,7 @@ pub record SameLine (border : Border) (l : ℕ) (a b : Bool) : Type 0 where
   pub beyond : border.line l ≡ true → a ≡ b
   pub released : border.some ≡ false → border.line l ≡ true → (a ≡ false) × (b ≡ false)
 
--- the same is pending on a master beyond
+-- what is pending on a master beyond is equal
 abbrev pub SamePending : Border → ℕ → Option Pending → Option Pending → Type 0
 SamePending border m a b = IsBeyond border m → a ≡ b
 

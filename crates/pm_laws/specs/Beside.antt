@@ -28,7 +28,7 @@ pub data Beside (object : Object) (t : Topology) (m : NodeId) : List Event → L
       → Beside object t m (event ∷ es) fs
   rest : (es fs : List Event) → Beside object t m es fs → Beside object t m es (Pass ∷ fs)
 
--- the same of core steps, from these two books on. After each of them the books of the two worlds agree beyond the reach of the
+-- core steps beside one another, from these two books on. After each of them the books of the two worlds agree beyond the reach of the
 -- master. What is in both tells the same there, and what is in one alone tells nothing
 pub data AreBeside (c : Setup) (m : NodeId) : State → State → List Core → List Core → Type 0 where
   no_core : (a b : State) → AreBeside c m a b [] []

@@ -8,7 +8,7 @@ Both R [] (y ∷ ys) = ⊥
 Both R (x ∷ xs) [] = ⊥
 Both R (x ∷ xs) (y ∷ ys) = R x y × Both R xs ys
 
--- the same by a relation that knows the place; the first of them stand at place k
+-- two lists agree so by a relation that knows the place; the first of them are at place k
 abbrev pub BothFrom : {X : Type 0} → (ℕ → X → X → Type 0) → ℕ → List X → List X → Type 0
 BothFrom R k [] [] = ⊤
 BothFrom R k [] (y ∷ ys) = ⊥

@@ -80,13 +80,13 @@ pub record IsAlikeBeyond (c : Setup) (m : NodeId) (border : Border) (x y : Line)
   pub moves : of_line (moves_in c.object c.topology border) x ≡ of_line (moves_in c.object c.topology border) y
   pub starts : of_line (starts_in c.object c.topology border) x ≡ of_line (starts_in c.object c.topology border) y
   pub pulses : of_line (λ core. listed (pulse_in c.topology border core)) x ≡ of_line (λ core. listed (pulse_in c.topology border core)) y
-  -- the same is asked of masters beyond, the same requests to them end, with the same late replies, and the same callbacks are
+  -- what is asked of masters beyond is equal, and which requests to them end, with which late replies, and which callbacks are
   -- made to them, but for those about nodes within
   pub asked : of_line (λ core. listed (asked_in border core)) x ≡ of_line (λ core. listed (asked_in border core)) y
   pub ends : of_line (ends_in border) x ≡ of_line (ends_in border) y
   pub late : of_line (late_in border) x ≡ of_line (late_in border) y
   pub callbacks : of_line (callbacks_in c.object border) x ≡ of_line (callbacks_in c.object border) y
-  -- the same messages of other masters that are beyond, or that aren't configured, are dropped; and those that name nothing within
+  -- of other masters that are beyond, or that aren't configured, equal messages are dropped; and those that name nothing within
   -- are answered the same
   pub drops : of_line (drops_in c.object border m) x ≡ of_line (drops_in c.object border m) y
   pub answers : of_line (answers_in c.object c.topology border m) x ≡ of_line (answers_in c.object c.topology border m) y

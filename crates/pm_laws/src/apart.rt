@@ -26,7 +26,7 @@ use pm_run::books_of_a_run;
 /// Two books that agree beyond the reach of a master have the same values and modes there. They agree after an event in
 /// both, and then the same is told there. A message of the master in one alone leaves them in agreement, and tells
 /// nothing there; and so does the wait of a processor of it, or a Pass. So they agree after an event in the one, and in
-/// the other the same event, or nothing where it is a message of that master; and where the object has the master, the
+/// the other the same event, or nothing if it is a message of that master; and if the object has the master, the
 /// same is told there by both.
 pub fn steps_keep_apart()
     ensures values { (m : NodeId) (a b : State) → AreObjects a.fixed → IsWellFormed a.fixed.topology

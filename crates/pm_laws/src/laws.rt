@@ -84,10 +84,8 @@ pub fn changes_agree()
     laws_below();
 }
 
-/// The two facts of each change of what masters are told: made in both books it leaves them in agreement,
-/// and unseen and made in one alone it does so too, where some is beyond if a master is. So do two lists of
-/// such changes, one in each book, with the same seen part; and a list of which nothing is seen, in one book
-/// alone.
+/// A change of what masters are told keeps two books in agreement if it is made in both, or if it is invisible and made in
+/// either. So do two lists of such changes, one in each book, with the same visible part; and an invisible list in one book.
 pub fn talks_agree()
     ensures both { (border : Border) (change : Talk) (a b : State)
         → Agree border a b → Agree border (talked (change ∷ []) a) (talked (change ∷ []) b) }
@@ -103,7 +101,7 @@ pub fn talks_agree()
 
 /// A master beyond has the same mode in two books that agree, since it comes from its own processors. So
 /// the same part is seen of the shifts by which the rows follow, and there is no shift if the rows know
-/// the modes already; and two stages with the same seen part leave the books in agreement, where some master
+/// the modes already; and two stages with the same seen part leave the books in agreement, if some master
 /// is beyond.
 pub fn rows_follow_alike()
     ensures mode { (border : Border) (m : ℕ) (a b : State) → IsBeyond border m → Agree border a b
@@ -119,7 +117,7 @@ pub fn rows_follow_alike()
 }
 
 /// The books along a step. Where nothing in its stages is seen each of them agrees with a book that stays,
-/// if the one before did. Where the same part of two lists of stages is seen, one by one, and some master is
+/// if the one before did. If the same part of two lists of stages is seen, one by one, and some master is
 /// beyond, the books along them agree one by one, and so do the last ones.
 pub fn paths_agree()
     ensures hidden { (border : Border) (stages : List (List Prim)) (still now : State) → KnowsModes still
@@ -139,7 +137,7 @@ pub fn paths_agree()
 /// What a master beyond sees in two books that agree is equal: its row on a slave beyond, with the other
 /// master that uses the slave, its own processors, and whether a request to suspend is pending on it. So is
 /// what any master sees of a processor that it wants to wake, whose owner is beyond, and of a master beyond
-/// that it asks to suspend; and what is wanted of a slave beyond, where any master is beyond.
+/// that it asks to suspend; and what is wanted of a slave beyond, if any master is beyond.
 pub fn views_agree()
     ensures row { (border : Border) (m : ℕ) (node : NodeId) (a b : State)
         → IsClosed a.fixed border → IsBeyond border m

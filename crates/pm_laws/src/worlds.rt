@@ -24,7 +24,7 @@ use crate::apart::steps_keep_apart;
 use pm_base::{Event, NodeId};
 use pm_core::{Book, Outbox};
 
-/// The event, or `pass`, in which nothing happens, where it is a message of the master, sent or put into its box, or a
+/// The event, or `pass`, in which nothing happens, if it is a message of the master, sent or put into its box, or a
 /// power call, which comes to messages of master 1. It is lent, since an event may hold the words of an object.
 pub fn quiet_event<'e>(m: NodeId, event: &'e Event, pass: &'e Event) -> &'e Event
     requires { pass.now ≡ Pass }
@@ -47,7 +47,7 @@ pub fn loaded_objects_are_objects()
     ensures step { (event : Event) (book : State) → AreObjects book.fixed → AreObjects (effect event book).fixed }
 {}
 
-/// One core event in the one of two books, and in the other the same event, or nothing where it is a message of a master. The
+/// One core event in the one of two books, and in the other the same event, or nothing if it is a message of a master. The
 /// books have one loaded object, which has the master, the same attached ones and one chip; each of these objects that can be
 /// in force is well formed, as `loaded_objects_are_objects` has it. They agree beyond the reach of the master; both outboxes
 /// were loaded for them. What is beyond that reach can't tell the two apart. No memory is taken.
@@ -55,7 +55,7 @@ pub fn loaded_objects_are_objects()
 /// Beyond it they have the same values and modes, and the same is told: the same units move, the same processors start, at
 /// the same addresses, and the same reset line is pulsed, or none; the same is asked of masters there, the same requests to
 /// them end, with the same late replies, and they are called back alike, but for what is about nodes within; the message of
-/// a master there is dropped in both or in neither, and where its call names nothing within, it is answered the same.
+/// a master there is dropped in both or in neither, and if its call names nothing within, it is answered the same.
 ///
 /// Each outbox has the room that it had, which is that of the books' chip and masters.
 pub fn step_both(
