@@ -44,7 +44,7 @@ impl<H: Responder> ModulesOf<H> {
     ///
     /// # Errors
     ///
-    /// `NoMemory` where there is not enough memory.
+    /// `NoMemory` if there is not enough memory.
     pub fn new(alloc: Global) -> Result<ModulesOf<H>, NoMemory>
         ensures { IfOk result (λ modules. ranges H.Responder modules ≡ []) }
     {
@@ -54,6 +54,7 @@ impl<H: Responder> ModulesOf<H> {
         }
     }
 
+    /// Whether the range of a module has a word of one that is here.
     fn overlaps(&self, added: &ModuleOf<H>) -> bool
         ensures { result ≡ overlaps H.Responder added.now self.now }
     {
@@ -69,7 +70,7 @@ impl<H: Responder> ModulesOf<H> {
     ///
     /// # Errors
     ///
-    /// `Overlap` where a word is in its range and in that of a module that is stored, and else `Full` where
+    /// `Overlap` if a word is in its range and in that of a module that is stored, and else `Full` if
     /// eight are stored. Both hand the module back, and nothing changes.
     pub fn add(&mut self, added: ModuleOf<H>) -> Result<(), AddErrorOf<H>>
         ensures added { OnOk result (ranges H.Responder self.new
@@ -88,7 +89,7 @@ impl<H: Responder> ModulesOf<H> {
         Ok(())
     }
 
-    /// What the handler says whose range has the message's API word, and nothing where no range has it.
+    /// What the handler says whose range has the message's API word, and nothing if no range has it.
     pub fn answer(&self, message: &Message) -> Option<Response>
         ensures { result ≡ says_of H.Responder self.now message.now }
     {

@@ -21,6 +21,7 @@ pub trait Responder: Drop {
 impl Responder for Box<dyn Responder> {
     ghost says = { λ held. (Responder-box held).says held.value };
 
+    /// Answers as the handler in the box does.
     fn serve(&self, message: &Message) -> Response {
         (**self).serve(message)
     }
@@ -35,6 +36,7 @@ impl Responder for Echo {
 
     ghost says = { λ _. echoed };
 
+    /// Answers 0 and the first three arguments.
     fn serve(&self, message: &Message) -> Response {
         let [first, second, third, ..] = message.args;
         Response {
@@ -55,6 +57,7 @@ impl Responder for Masked {
 
     ghost says = { λ responder. masked responder.mask };
 
+    /// Answers 0 and the bits of the first argument that the mask has.
     fn serve(&self, message: &Message) -> Response {
         Response {
             status: 0,
