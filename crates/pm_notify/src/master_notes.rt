@@ -44,7 +44,7 @@ impl MasterNotes {
     ///
     /// # Errors
     ///
-    /// `NoMemory` where there is not enough memory.
+    /// `NoMemory` if there is not enough memory.
     pub fn load(alloc: Global, t: &Topology) -> Result<MasterNotes, NoMemory>
         ensures { IfOk result (λ notes. notes ≡ all_at no_notes (units_of t.now)) }
     {
@@ -56,7 +56,7 @@ impl MasterNotes {
         })
     }
 
-    /// What was asked for and what waits about a node: nothing where the chip doesn't have it.
+    /// What was asked for and what waits about a node: nothing if the chip doesn't have it.
     fn about(&self, node: NodeId) -> NodeNotes
         ensures { result ≡ notes_at node self.now }
     {
@@ -65,7 +65,7 @@ impl MasterNotes {
             .unwrap_or(NodeNotes::none())
     }
 
-    /// Keeps this about a node. Nothing changes where the chip doesn't have it.
+    /// Keeps this about a node. Nothing changes if the chip doesn't have it.
     fn set(&mut self, node: NodeId, notes: NodeNotes)
         ensures { self.new ≡ with_notes node notes self.old }
     {

@@ -17,7 +17,7 @@ use std::marker::Model;
 /// for each kind.
 ///
 /// About a node that the chip doesn't have, and for a master that isn't there, nothing is asked for and
-/// nothing waits. Beside the notes stands whether any master may have asked for anything, so that where none has, that
+/// nothing waits. Beside the notes stands whether any master may have asked for anything, so that if none has, that
 /// is seen at once.
 #[derive(Drop)]
 pub struct Notify {
@@ -44,7 +44,7 @@ impl Notify {
     ///
     /// # Errors
     ///
-    /// `NoMemory` where there is not enough memory.
+    /// `NoMemory` if there is not enough memory.
     pub fn load(alloc: Global, t: &Topology, masters: usize) -> Result<Notify, NoMemory>
         ensures { IfOk result (λ notify. notify ≡ loaded t.now masters) }
     {
@@ -73,7 +73,7 @@ impl Notify {
         }
     }
 
-    /// A master is told of an event of a node from now on, or isn't any more. Nothing changes where the
+    /// A master is told of an event of a node from now on, or isn't any more. Nothing changes if the
     /// master or the node isn't there.
     pub fn put(&mut self, m: usize, n: NodeId, event: NodeEvent, on: bool)
         ensures { self.new ≡ registered m n event on self.old }
@@ -85,7 +85,7 @@ impl Notify {
     }
 
     /// A note about a node waits for a master from now on, in the slot of that master, node and kind: what
-    /// waited there is replaced. Nothing changes where the master or the node isn't there.
+    /// waited there is replaced. Nothing changes if the master or the node isn't there.
     pub fn wait(&mut self, m: usize, n: NodeId, note: Note)
         ensures { self.new ≡ noted m n note self.old }
     {
@@ -96,7 +96,7 @@ impl Notify {
     }
 
     /// Takes out the first note that waits for a master: by the number of its node, and then an
-    /// acknowledgement before a change before no users any more. `None` where nothing waits. It looks
+    /// acknowledgement before a change before no users any more. `None` if nothing waits. It looks
     /// at most once at each unit in the notes of this master, and in no other notes.
     pub fn take(&mut self, m: usize) -> Option<Waiting>
         ensures first { result ≡ first_for m self.old }
