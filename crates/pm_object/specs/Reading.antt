@@ -263,10 +263,10 @@ fault_in (Memory e) = None
 abbrev pub Gives : {A : Type 0} → Result A DecodeError → Result A ObjectFault → Type 0
 Gives result read = GivesAs fault_in (λ x. x) result read
 
--- the same for a function that left the words at a place
+-- the result of a function that left the words at a place
 abbrev pub GivesAt : {A : Type 0} → Cursor → Result A DecodeError → Step A → Type 0
 GivesAt after result read = GivesAs fault_in (λ x. (x, after)) result read
 
--- the same for a function that left an object as it is at a place
+-- the result of a function that left an object as it is at a place
 abbrev pub GivesInto : {A : Type 0} → A → Cursor → Result ⊤ DecodeError → Step A → Type 0
 GivesInto value after result read = GivesAs fault_in (λ _. (value, after)) result read

@@ -39,7 +39,7 @@ impl Attached {
     ///
     /// # Errors
     ///
-    /// `NoMemory` where there is not enough memory.
+    /// `NoMemory` if there is not enough memory.
     pub fn copy(&self, alloc: Global) -> Result<Attached, NoMemory>
         ensures { IfOk result (λ copied. copied ≡ self.now) }
     {
@@ -49,7 +49,7 @@ impl Attached {
         })
     }
 
-    /// The object that is attached, where it can be put in force in place of the loaded one: the words at the address
+    /// The object that is attached, if it can be put in force in place of the loaded one: the words at the address
     /// are an object, and its masters have the nodes and the masks of the loaded one's, in the same order.
     pub fn usable(&self, loaded: &Object) -> Option<&Object>
         ensures { option_copied result ≡ usable loaded.now self.now }

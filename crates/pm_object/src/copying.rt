@@ -17,6 +17,7 @@ fn append<T: Copy>(items: &[T], copied: &mut List<T>) -> Result<(), NoMemory>
     Ok(())
 }
 
+/// A copy of a preallocation group.
 fn copy_group(alloc: Global, group: &PreGroup) -> Result<PreGroup, NoMemory>
     ensures { IfOk result (λ copied. copied ≡ group.now) }
 {

@@ -12,7 +12,7 @@ use std::alloc::Global;
 ///
 /// # Errors
 ///
-/// `NoMemory` where there is not enough memory.
+/// `NoMemory` if there is not enough memory.
 pub fn bytes_of(alloc: Global, words: &[u32]) -> Result<Vec<u8>, NoMemory>
     ensures { IfOk result (λ bytes. bytes.items ≡ little_endian words.now) }
 {

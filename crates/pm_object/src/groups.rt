@@ -10,6 +10,7 @@ use std::alloc::Global;
 impl Keyed for PreRec {
     ghost key_of = { λ r. r.node };
 
+    /// The slave's node, which no other record of the group has.
     fn key(&self) -> u32 {
         self.node
     }
@@ -18,6 +19,7 @@ impl Keyed for PreRec {
 impl Record for PreRec {
     ghost one = { preset };
 
+    /// Reads a record of a preallocation: node, flags, current capabilities, preset.
     #[tactic(auto, unfolding(crate::specs::Reading::preset))]
     fn read(_alloc: Global, earlier: &[PreRec], words: &mut Words) -> Result<PreRec, DecodeError> {
         let node = read_key(earlier, words)?;

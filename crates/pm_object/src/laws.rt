@@ -9,7 +9,7 @@ ghost use Rattle.pm_object.specs.Bodies.{Body, body_of, no_body, unset, with_bod
 ghost use Rattle.pm_object.specs.Grammar.{IsBody, IsObject, Reads, body_words, identifier, is_same, little_endian, section_words, words_of};
 ghost use Rattle.pm_object.specs.Reading.{IsFatal, first_fault, reading};
 
-/// The grammar and reading word by word agree: bytes spell an object exactly where nothing is wrong
+/// The grammar and reading word by word agree: bytes spell an object exactly if nothing is wrong
 /// with them, and they spell at most one. What is written is read again, and nothing that follows the
 /// first fault's word mends the bytes.
 pub fn one_reading()

@@ -26,12 +26,14 @@ fn is_split(a: u32, b: u32) -> bool
     a == 6 && (b == 7 || b == 8) || b == 6 && (a == 7 || a == 8)
 }
 
+/// Whether an earlier master is the lock-step pair and this one a half of it, or the other way round.
 fn has_split(earlier: &[MasterRec], node: u32) -> bool
     ensures { result ≡ list_any (λ m. splits_lockstep m.node node) earlier.now }
 {
     earlier.iter().any(|master| is_split(master.node, node))
 }
 
+/// Whether an earlier master has a bit of this mask.
 fn has_bit(earlier: &[MasterRec], mask: u32) -> bool
     ensures { result ≡ list_any (λ m. not (bit_and m.mask mask == 0)) earlier.now }
 {
@@ -52,6 +54,8 @@ pub fn is_bad_mask(earlier: &[MasterRec], mask: u32) -> bool
     mask.count_ones() != 1 || has_bit(earlier, mask)
 }
 
+/// Reads the node of a master. BadMaster if it can't be one beside the earlier ones, RepeatedNode if one of them has
+/// it.
 #[tactic(auto, unfolding(crate::specs::Reading::master_node))]
 fn read_node(earlier: &[MasterRec], words: &mut Words) -> Result<u32, DecodeError>
     ensures { GivesAt words.new result (master_node earlier.now words.old) }
@@ -67,6 +71,7 @@ fn read_node(earlier: &[MasterRec], words: &mut Words) -> Result<u32, DecodeErro
     Ok(node)
 }
 
+/// Reads the mask of a master. MaskRepeated if it isn't one bit that no earlier master has.
 #[tactic(auto, unfolding(crate::specs::Reading::master_mask))]
 fn read_mask(earlier: &[MasterRec], words: &mut Words) -> Result<u32, DecodeError>
     ensures { GivesAt words.new result (master_mask earlier.now words.old) }
@@ -82,6 +87,7 @@ fn read_mask(earlier: &[MasterRec], words: &mut Words) -> Result<u32, DecodeErro
 impl Keyed for MasterRec {
     ghost key_of = { λ m. m.node };
 
+    /// The master's node, which no other master has.
     fn key(&self) -> u32 {
         self.node
     }
@@ -90,6 +96,7 @@ impl Keyed for MasterRec {
 impl Record for MasterRec {
     ghost one = { master };
 
+    /// Reads a master: node, mask, timeout, whom it may suspend, whom it may wake.
     #[tactic(auto, unfolding(crate::specs::Reading::master))]
     fn read(
         _alloc: Global,

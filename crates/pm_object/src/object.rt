@@ -139,6 +139,7 @@ pub enum DecodeError {
 impl From<NoMemory> for DecodeError {
     ghost from_gives = { λ x e. e ≡ Memory x };
 
+    /// Want of memory is handed on.
     fn from(e: NoMemory) -> DecodeError {
         DecodeError::Memory(e)
     }

@@ -10,6 +10,7 @@ use std::alloc::Global;
 impl Keyed for Pair {
     ghost key_of = { λ p. p.key };
 
+    /// The node, line or subtype, which no other record of the section has.
     fn key(&self) -> u32 {
         self.key
     }
@@ -18,6 +19,7 @@ impl Keyed for Pair {
 impl Record for Pair {
     ghost one = { pair };
 
+    /// Reads a power, reset or shutdown record: node, line or subtype, and mask.
     #[tactic(auto, unfolding(crate::specs::Reading::pair))]
     fn read(_alloc: Global, earlier: &[Pair], words: &mut Words) -> Result<Pair, DecodeError> {
         let key = read_key(earlier, words)?;

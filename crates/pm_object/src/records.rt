@@ -31,6 +31,7 @@ pub trait Keyed {
 impl Record for u32 {
     ghost one = { λ _ c. word c };
 
+    /// Reads a word as it is.
     fn read(_alloc: Global, _earlier: &[u32], words: &mut Words) -> Result<u32, DecodeError> {
         words.next()
     }

@@ -56,6 +56,7 @@ impl Section {
 impl Keyed for Section {
     ghost key_of = { identifier };
 
+    /// The section's identifier, which no other section has.
     fn key(&self) -> u32 {
         self.identifier()
     }
@@ -99,6 +100,7 @@ fn read_into<T: Record + Drop>(
     Ok(())
 }
 
+/// Reads the words of a section behind its identifier into the object.
 #[tactic(auto, unfolding(crate::specs::Reading::section_body, crate::specs::Reading::body))]
 fn read_body(
     alloc: Global,
@@ -124,6 +126,7 @@ fn read_body(
     Ok(())
 }
 
+/// Reads a section, its identifier first, into the object. UnknownSection and RepeatedSection come at the identifier.
 #[tactic(auto, unfolding(crate::specs::Reading::section))]
 fn read_section(alloc: Global, object: &mut Object, words: &mut Words) -> Result<(), DecodeError>
     ensures { GivesInto object.new words.new result (section object.old words.old) }

@@ -10,6 +10,7 @@ use std::alloc::Global;
 impl Keyed for SlaveRec {
     ghost key_of = { λ s. s.node };
 
+    /// The slave's node, which no other slave record has.
     fn key(&self) -> u32 {
         self.node
     }
@@ -18,6 +19,7 @@ impl Keyed for SlaveRec {
 impl Record for SlaveRec {
     ghost one = { slave };
 
+    /// Reads a slave record: node, flags, mask.
     #[tactic(auto, unfolding(crate::specs::Reading::slave))]
     fn read(
         _alloc: Global,

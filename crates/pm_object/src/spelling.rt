@@ -22,6 +22,7 @@ trait Spell {
 impl Spell for MasterRec {
     ghost spelling = { master_words };
 
+    /// Puts the five words of a master at the end.
     fn spell(&self, out: &mut List<u32>) -> Result<(), NoMemory> {
         out.push(self.node)?;
         out.push(self.mask)?;
@@ -34,6 +35,7 @@ impl Spell for MasterRec {
 impl Spell for SlaveRec {
     ghost spelling = { slave_words };
 
+    /// Puts the three words of a slave record at the end.
     fn spell(&self, out: &mut List<u32>) -> Result<(), NoMemory> {
         out.push(self.node)?;
         out.push(self.flags)?;
@@ -44,6 +46,7 @@ impl Spell for SlaveRec {
 impl Spell for PreRec {
     ghost spelling = { preset_words };
 
+    /// Puts the four words of a preallocation record at the end.
     fn spell(&self, out: &mut List<u32>) -> Result<(), NoMemory> {
         out.push(self.node)?;
         out.push(self.flags)?;
@@ -55,6 +58,7 @@ impl Spell for PreRec {
 impl Spell for Pair {
     ghost spelling = { pair_words };
 
+    /// Puts the two words of a power, reset or shutdown record at the end.
     fn spell(&self, out: &mut List<u32>) -> Result<(), NoMemory> {
         out.push(self.key)?;
         out.push(self.mask)
@@ -64,6 +68,7 @@ impl Spell for Pair {
 impl Spell for PreGroup {
     ghost spelling = { group_words };
 
+    /// Puts a preallocation group at the end: its mask, the number of its records, and these.
     fn spell(&self, out: &mut List<u32>) -> Result<(), NoMemory> {
         out.push(self.mask)?;
         spell_list(&self.recs, out)
@@ -82,6 +87,7 @@ fn spell_list<T: Spell>(items: &List<T>, out: &mut List<u32>) -> Result<(), NoMe
     Ok(())
 }
 
+/// Puts words at the end.
 fn spell_words(words: &[u32], out: &mut List<u32>) -> Result<(), NoMemory>
     ensures { OnOk result (out.new ≡ out.old ++ words.now) }
 {
@@ -91,6 +97,7 @@ fn spell_words(words: &[u32], out: &mut List<u32>) -> Result<(), NoMemory>
     Ok(())
 }
 
+/// Puts the words of a section behind its identifier at the end.
 fn spell_body(object: &Object, section: Section, out: &mut List<u32>) -> Result<(), NoMemory>
     requires { All (λ w. w < 2 ^ 32) (inner_words section object.now) }
     ensures { OnOk result (out.new ≡ out.old ++ inner_words section object.now) }
@@ -107,6 +114,7 @@ fn spell_body(object: &Object, section: Section, out: &mut List<u32>) -> Result<
     }
 }
 
+/// Puts a section at the end, its identifier first.
 fn spell_section(object: &Object, section: Section, out: &mut List<u32>) -> Result<(), NoMemory>
     requires { All (λ w. w < 2 ^ 32) (section_words object.now section) }
     ensures { OnOk result (out.new ≡ out.old ++ section_words object.now section) }
@@ -115,6 +123,7 @@ fn spell_section(object: &Object, section: Section, out: &mut List<u32>) -> Resu
     spell_body(object, section, out)
 }
 
+/// Puts the sections at the end, in the object's order.
 fn spell_sections(object: &Object, out: &mut List<u32>) -> Result<(), NoMemory>
     requires { All (λ w. w < 2 ^ 32) (flat_map (section_words object.now) object.now.order) }
     ensures { OnOk result (out.new ≡ out.old ++ flat_map (section_words object.now) object.now.order) }
@@ -125,6 +134,7 @@ fn spell_sections(object: &Object, out: &mut List<u32>) -> Result<(), NoMemory>
     Ok(())
 }
 
+/// Puts the header at the end: how many words follow in it, the number of sections, the type 1, and the extra words.
 fn spell_header(object: &Object, out: &mut List<u32>) -> Result<(), NoMemory>
     requires { All (λ w. w < 2 ^ 32) (header_words object.now) }
     ensures { OnOk result (out.new ≡ out.old ++ header_words object.now) }

@@ -55,7 +55,7 @@ impl<'a> Words<'a> {
         self.bytes.len() < 4
     }
 
-    /// Reads a word. `Truncated` where none is left.
+    /// Reads a word. `Truncated` if none is left.
     pub fn next(&mut self) -> Result<u32, DecodeError>
         ensures { GivesAt self.new result (word self.old) }
     {
