@@ -14,6 +14,6 @@ fault_in (Memory e) = None
 abbrev pub Gives : {A : Type 0} → Result A BuildError → Result A TextFault → Type 0
 Gives result read = GivesAs fault_in (λ x. x) result read
 
--- the same for a function that changed a value in place to what reading gives
+-- the result of a function that changed a value in place to what reading gives
 abbrev pub GivesInto : {A B : Type 0} → A → Result B BuildError → Result A TextFault → Type 0
 GivesInto value result read = GivesAs fault_in (λ _. value) result read

@@ -16,6 +16,6 @@ unless_bad (Some fault) d = Err fault
 unfoldable pub building : List ℕ → Result Object TextFault
 building text = unless_bad (first_bad text) (said_by start (lines_of text))
 
--- the same of the lines that are left, whose numbers go on from `line`, after what the earlier ones say
+-- the object of the lines that are left, whose numbers go on from `line`, after what the earlier ones say
 abbrev pub judged : ℕ → SoFar → List (List ℕ) → Result Object TextFault
 judged line d lines = unless_bad (first_bad_from line d lines) (said_by d lines)

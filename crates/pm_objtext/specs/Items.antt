@@ -29,7 +29,7 @@ body_items sections.Shutdown pairs = map Shutdown pairs
 body_items sections.Config masks = Config masks.0 masks.1 ∷ []
 body_items sections.Gpo word = Gpo word ∷ []
 
--- the same of an object, case by case, so that it computes at each section
+-- the items of the records of a section of an object, case by case, so that it computes at each section
 abbrev pub record_items : Section → Object → List Item
 record_items sections.Masters o = body_items sections.Masters (body_of sections.Masters o)
 record_items section o = body_items section (body_of section o)

@@ -72,7 +72,7 @@ fn build_text(alloc: Global, text: &[u8]) -> Result<Object, BuildError>
 /// The object that a text means. Spaces, tabs, comments and empty lines between its words and lines
 /// make no difference, nor does the way in which a number is written.
 ///
-/// `Bad` comes exactly where the text means no object, with its first bad line and the first of that
+/// `Bad` comes exactly if the text means no object, with its first bad line and the first of that
 /// line's causes. A text of more than 1,048,576 bytes is bad as a whole. The other error is want of
 /// memory.
 pub fn build(alloc: Global, text: &[u8]) -> Result<Object, BuildError>

@@ -66,6 +66,7 @@ impl Draft {
         }
     }
 
+    /// Whether a line is in its place: whether the section so far takes such a record. Else its cause is Place.
     fn stands(&self, item: &Item) -> bool
         ensures { result ≡ stands item.now (so_far self.now) }
     {
@@ -86,6 +87,7 @@ impl Draft {
         }
     }
 
+    /// Whether a line repeats a section, or the first word of an earlier record of its section or group: Repeated.
     fn repeats(&self, item: &Item) -> bool
         ensures { result ≡ repeats item.now (so_far self.now) }
     {
@@ -114,6 +116,7 @@ impl Draft {
         }
     }
 
+    /// Whether a line breaks a rule on masters: Master.
     fn breaks_masters(&self, item: &Item) -> bool
         ensures { result ≡ breaks_masters item.now (so_far self.now) }
     {
@@ -127,6 +130,7 @@ impl Draft {
         }
     }
 
+    /// The cause by which a line is bad, if it is: the first of Place, Repeated, Master, Size.
     #[tactic(auto, unfolding(crate::specs::Causes::cause_of))]
     fn cause_of(&self, item: &Item) -> Option<TextCause>
         requires { self.now.size ≤ 4096 }
@@ -145,6 +149,7 @@ impl Draft {
         }
     }
 
+    /// The fault of the line that is read.
     fn fault(&self, cause: TextCause) -> BuildError
         ensures { result ≡ Bad (record { line = self.now.line; cause = cause }) }
     {
@@ -154,6 +159,7 @@ impl Draft {
         })
     }
 
+    /// Takes a good line into the object.
     fn place(&mut self, alloc: Global, item: Item) -> Result<(), NoMemory>
         requires { repeats item (so_far self.old) ≡ false }
         ensures said { OnOk result (so_far self.new ≡ record (so_far self.old)
@@ -192,7 +198,7 @@ impl Draft {
         Ok(())
     }
 
-    /// Takes a line of right form. Where it is refused, the draft stays as it was.
+    /// Takes a line of right form. If it is refused, the draft stays as it was.
     #[tactic(auto, unfolding(crate::specs::Draft::accepting, crate::specs::Causes::cause_of))]
     pub fn accept(&mut self, alloc: Global, item: Item) -> Result<(), BuildError>
         requires small { self.old.size ≤ 4096 }
@@ -211,7 +217,7 @@ impl Draft {
         Ok(())
     }
 
-    /// Takes a line. Where it is refused, the answer names the line's number.
+    /// Takes a line. If it is refused, the answer names the line's number.
     #[tactic(auto, unfolding(crate::specs::Draft::reading, crate::specs::Draft::accepting))]
     pub fn read(&mut self, alloc: Global, line: &[u8]) -> Result<(), BuildError>
         requires small { self.old.size ≤ 4096 }
@@ -226,6 +232,7 @@ impl Draft {
         self.accept(alloc, item)
     }
 
+    /// The cause by which the end of the text is bad, if it is.
     fn end_cause(&self) -> Option<TextCause>
         ensures { result ≡ end_cause (so_far self.now) }
     {
@@ -238,7 +245,7 @@ impl Draft {
         }
     }
 
-    /// The object, where the text ends here.
+    /// The object, if the text ends here.
     #[tactic(auto, unfolding(crate::specs::Draft::finished))]
     pub fn finish(self, alloc: Global) -> Result<Object, BuildError>
         ensures { Gives result (finished self.line (so_far self)) }
@@ -252,6 +259,7 @@ impl Draft {
         Ok(self.into_object(alloc)?)
     }
 
+    /// The object that the lines make.
     fn into_object(self, alloc: Global) -> Result<Object, NoMemory>
         ensures { IfOk result (λ object. object ≡ (so_far self).object) }
     {
@@ -303,6 +311,7 @@ fn other_lists(
     Ok((order, slaves, groups))
 }
 
+/// The words that a header line adds to the object: the first one has three besides the extra ones.
 fn header_size(stage: Stage, extra: usize) -> u32
     requires { extra ≤ 16 }
     ensures { result ≡ header_size stage extra }
@@ -331,6 +340,7 @@ fn words_in(item: &Item, stage: Stage) -> u32
     }
 }
 
+/// Puts words at the end.
 fn append(list: &mut List<u32>, words: &[u32]) -> Result<(), NoMemory>
     ensures { OnOk result (list.new ≡ list.old ++ words.now) }
 {

@@ -44,6 +44,7 @@ pub enum BuildError {
 impl From<NoMemory> for BuildError {
     ghost from_gives = { λ x e. e ≡ Memory x };
 
+    /// Want of memory is handed on.
     fn from(e: NoMemory) -> BuildError {
         BuildError::Memory(e)
     }

@@ -26,6 +26,7 @@ impl Model for Group {
 }
 
 impl Group {
+    /// A group for masters of a mask, without a record.
     fn new(alloc: Global, mask: u32) -> Self
         ensures { result ≡ record { mask = mask; recs = [] } }
     {
@@ -35,12 +36,14 @@ impl Group {
         }
     }
 
+    /// Whether a record of the group has a node.
     fn has_node(&self, node: u32) -> bool
         ensures { result ≡ list_any (λ rec. rec.node == node) self.now.recs }
     {
         self.recs.has(node)
     }
 
+    /// Puts a record at the end.
     fn add(&mut self, rec: PreRec) -> Result<(), NoMemory>
         requires { list_any (λ other. other.node == rec.node) self.old.recs ≡ false }
         ensures { OnOk result (self.new ≡ record self.old { recs = self.old.recs ++ rec ∷ [] }) }
@@ -48,6 +51,7 @@ impl Group {
         self.recs.push(rec)
     }
 
+    /// The group of the object.
     fn into_group(self, alloc: Global) -> Result<PreGroup, NoMemory>
         ensures { IfOk result (λ group. group ≡ self) }
     {
@@ -83,6 +87,7 @@ impl Groups {
         }
     }
 
+    /// Whether there is no group.
     pub fn is_empty(&self) -> bool
         ensures { result ≡ (length self.now == 0) }
     {
@@ -128,6 +133,7 @@ impl Groups {
     }
 }
 
+/// The groups of the object.
 fn list_of(alloc: Global, groups: Vec<Group>) -> Result<List<PreGroup>, NoMemory>
     ensures { IfOk result (λ list. list ≡ groups.items) }
 {

@@ -10,7 +10,7 @@ ghost use Rattle.pm_objtext.specs.Building.{building};
 
 use pm_object::{object_sections, section_identifiers};
 
-/// What is built from a text is what it means: at most one object, and one exactly where no line is
+/// What is built from a text is what it means: at most one object, and one exactly if no line is
 /// bad. A printed object's text means that object.
 pub fn one_meaning()
     ensures built { (text : List ℕ) (o : Object) → building text ≡ Ok o ↔ Means text o }

@@ -13,12 +13,14 @@ use pm_base::NoMemory;
 use pm_object::{MasterRec, Object, Pair, PreGroup, PreRec, Section, SlaveRec};
 use std::alloc::Global;
 
+/// Puts bytes at the end of the text. All functions here can want memory, and put lines at the end.
 fn put(text: &mut Vec<u8>, bytes: &[u8]) -> Result<(), NoMemory>
     ensures { OnOk result (text.new.items ≡ text.old.items ++ bytes.now) }
 {
     text.extend_from_slice(bytes).map_err(|_| NoMemory)
 }
 
+/// Puts a space and a decimal number.
 fn put_number(text: &mut Vec<u8>, number: u32) -> Result<(), NoMemory>
     ensures { OnOk result (text.new.items ≡ text.old.items ++ number_text number) }
 {
@@ -27,6 +29,7 @@ fn put_number(text: &mut Vec<u8>, number: u32) -> Result<(), NoMemory>
     put(text, buffer.format(number).as_bytes())
 }
 
+/// Puts numbers, each behind a space.
 fn put_numbers(text: &mut Vec<u8>, numbers: &[u32]) -> Result<(), NoMemory>
     ensures { OnOk result (text.new.items ≡ text.old.items ++ flat_map number_text numbers.now) }
 {
@@ -36,6 +39,7 @@ fn put_numbers(text: &mut Vec<u8>, numbers: &[u32]) -> Result<(), NoMemory>
     Ok(())
 }
 
+/// Puts a line: a keyword and numbers.
 fn put_line(text: &mut Vec<u8>, keyword: Keyword, numbers: &[u32]) -> Result<(), NoMemory>
     ensures { OnOk result (text.new.items ≡ text.old.items ++ (numbers_line keyword numbers.now ++ 10 ∷ [])) }
 {
@@ -44,6 +48,7 @@ fn put_line(text: &mut Vec<u8>, keyword: Keyword, numbers: &[u32]) -> Result<(),
     put(text, b"\n")
 }
 
+/// Puts the header lines, each with at most 16 extra words.
 fn put_header(text: &mut Vec<u8>, extra: &[u32]) -> Result<(), NoMemory>
     ensures { OnOk result (text.new.items ≡ text.old.items ++ lines_text (header_items extra.now)) }
 {
@@ -55,6 +60,7 @@ fn put_header(text: &mut Vec<u8>, extra: &[u32]) -> Result<(), NoMemory>
     put_line(text, Keyword::Header, left)
 }
 
+/// Puts a line for each master.
 fn put_masters(text: &mut Vec<u8>, masters: &[MasterRec]) -> Result<(), NoMemory>
     ensures { OnOk result (text.new.items ≡ text.old.items ++ lines_text (map Master masters.now)) }
 {
@@ -68,6 +74,7 @@ fn put_masters(text: &mut Vec<u8>, masters: &[MasterRec]) -> Result<(), NoMemory
     Ok(())
 }
 
+/// Puts a line for each slave record.
 fn put_slaves(text: &mut Vec<u8>, slaves: &[SlaveRec]) -> Result<(), NoMemory>
     ensures { OnOk result (text.new.items ≡ text.old.items ++ lines_text (map Slave slaves.now)) }
 {
@@ -77,6 +84,7 @@ fn put_slaves(text: &mut Vec<u8>, slaves: &[SlaveRec]) -> Result<(), NoMemory>
     Ok(())
 }
 
+/// Puts a line for each record of a preallocation group.
 fn put_presets(text: &mut Vec<u8>, recs: &[PreRec]) -> Result<(), NoMemory>
     ensures { OnOk result (text.new.items ≡ text.old.items ++ lines_text (map Prefer recs.now)) }
 {
@@ -90,6 +98,7 @@ fn put_presets(text: &mut Vec<u8>, recs: &[PreRec]) -> Result<(), NoMemory>
     Ok(())
 }
 
+/// Puts a preallocation group: its mask, then its records.
 fn put_group(text: &mut Vec<u8>, group: &PreGroup) -> Result<(), NoMemory>
     ensures { OnOk result (text.new.items ≡ text.old.items ++ lines_text (group_items group.now)) }
 {
@@ -97,6 +106,7 @@ fn put_group(text: &mut Vec<u8>, group: &PreGroup) -> Result<(), NoMemory>
     put_presets(text, group.recs.as_slice())
 }
 
+/// Puts the preallocation groups.
 fn put_groups(text: &mut Vec<u8>, groups: &[PreGroup]) -> Result<(), NoMemory>
     ensures { OnOk result (text.new.items ≡ text.old.items ++ lines_text (flat_map group_items groups.now)) }
 {
@@ -106,6 +116,7 @@ fn put_groups(text: &mut Vec<u8>, groups: &[PreGroup]) -> Result<(), NoMemory>
     Ok(())
 }
 
+/// Puts a line for each power record.
 fn put_power(text: &mut Vec<u8>, pairs: &[Pair]) -> Result<(), NoMemory>
     ensures { OnOk result (text.new.items ≡ text.old.items ++ lines_text (map Power pairs.now)) }
 {
@@ -115,6 +126,7 @@ fn put_power(text: &mut Vec<u8>, pairs: &[Pair]) -> Result<(), NoMemory>
     Ok(())
 }
 
+/// Puts a line for each reset record.
 fn put_reset(text: &mut Vec<u8>, pairs: &[Pair]) -> Result<(), NoMemory>
     ensures { OnOk result (text.new.items ≡ text.old.items ++ lines_text (map Reset pairs.now)) }
 {
@@ -124,6 +136,7 @@ fn put_reset(text: &mut Vec<u8>, pairs: &[Pair]) -> Result<(), NoMemory>
     Ok(())
 }
 
+/// Puts a line for each shutdown record.
 fn put_shutdown(text: &mut Vec<u8>, pairs: &[Pair]) -> Result<(), NoMemory>
     ensures { OnOk result (text.new.items ≡ text.old.items ++ lines_text (map Shutdown pairs.now)) }
 {
@@ -133,6 +146,7 @@ fn put_shutdown(text: &mut Vec<u8>, pairs: &[Pair]) -> Result<(), NoMemory>
     Ok(())
 }
 
+/// Puts the records of a section.
 fn put_records(text: &mut Vec<u8>, section: Section, o: &Object) -> Result<(), NoMemory>
     ensures { OnOk result (text.new.items ≡ text.old.items ++ lines_text (record_items section o.now)) }
 {
@@ -148,6 +162,7 @@ fn put_records(text: &mut Vec<u8>, section: Section, o: &Object) -> Result<(), N
     }
 }
 
+/// Puts the line that opens a section.
 fn put_section_line(text: &mut Vec<u8>, section: Section) -> Result<(), NoMemory>
     ensures { OnOk result (text.new.items ≡ text.old.items ++ ended_line (Opens section)) }
 {
@@ -157,6 +172,7 @@ fn put_section_line(text: &mut Vec<u8>, section: Section) -> Result<(), NoMemory
     put(text, b"\n")
 }
 
+/// Puts a section: the line that opens it, then its records.
 fn put_section(text: &mut Vec<u8>, section: Section, o: &Object) -> Result<(), NoMemory>
     ensures { OnOk result (text.new.items ≡ text.old.items ++ lines_text (section_items o.now section)) }
 {
@@ -164,6 +180,7 @@ fn put_section(text: &mut Vec<u8>, section: Section, o: &Object) -> Result<(), N
     put_records(text, section, o)
 }
 
+/// Puts the sections, in the object's order.
 fn put_sections(text: &mut Vec<u8>, o: &Object) -> Result<(), NoMemory>
     ensures { OnOk result (text.new.items ≡ text.old.items ++ lines_text (flat_map (section_items o.now) o.now.order)) }
 {

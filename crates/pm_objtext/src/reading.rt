@@ -10,13 +10,14 @@ use crate::names::{ALL_KEYWORDS, ALL_SECTIONS, Keyword, keyword_text, section_te
 use pm_io::{is_readable, number, word_text};
 use pm_object::{MasterRec, Pair, PreRec, Section, SlaveRec};
 
+/// The number of 32 bits that a word is, if it is one.
 fn number_at(word: &[u8]) -> Option<u32>
     ensures { result ≡ number word.now }
 {
     number(word, u64::from(u32::MAX)).map(|n| n as u32)
 }
 
-/// The words after the first one as numbers, where there are at most 16.
+/// The words after the first one as numbers, if there are at most 16.
 fn numbers_after(line: &[u8]) -> Option<Numbers>
     ensures { option_map (λ numbers. numbers.items) result ≡ numbers (drop 1 (word_texts line.now)) }
 {
@@ -32,6 +33,7 @@ fn numbers_after(line: &[u8]) -> Option<Numbers>
     Some(numbers)
 }
 
+/// The keyword that a word is, if it is one.
 fn keyword_of(word: &[u8]) -> Option<Keyword>
     ensures { result ≡ keyword_of word.now }
 {
@@ -41,6 +43,7 @@ fn keyword_of(word: &[u8]) -> Option<Keyword>
         .find(|keyword| keyword_text(*keyword) == word)
 }
 
+/// The section that a word names, if it does.
 fn section_of(word: &[u8]) -> Option<Section>
     ensures { result ≡ section_of word.now }
 {
@@ -50,6 +53,7 @@ fn section_of(word: &[u8]) -> Option<Section>
         .find(|section| section_text(*section) == word)
 }
 
+/// The section that a line opens, if it has the name of one and nothing else.
 fn opening(line: &[u8]) -> Option<Item>
     ensures { result ≡ opening (slice_get (word_texts line.now) 1) (slice_get (word_texts line.now) 2) }
 {
@@ -60,6 +64,7 @@ fn opening(line: &[u8]) -> Option<Item>
     section_of(name).map(Item::Opens)
 }
 
+/// A master of these numbers: node, mask, timeout, suspend word, wake word.
 fn master_of(numbers: &[u32]) -> Option<Item>
     ensures { result ≡ master_of numbers.now }
 {
@@ -75,6 +80,7 @@ fn master_of(numbers: &[u32]) -> Option<Item>
     }))
 }
 
+/// A slave record of these numbers: node, flags, mask.
 fn slave_of(numbers: &[u32]) -> Option<Item>
     ensures { result ≡ slave_of numbers.now }
 {
@@ -84,6 +90,7 @@ fn slave_of(numbers: &[u32]) -> Option<Item>
     Some(Item::Slave(SlaveRec { node, flags, mask }))
 }
 
+/// The mask of a preallocation group.
 fn group_of(numbers: &[u32]) -> Option<Item>
     ensures { result ≡ group_of numbers.now }
 {
@@ -93,6 +100,7 @@ fn group_of(numbers: &[u32]) -> Option<Item>
     Some(Item::Group(mask))
 }
 
+/// A preallocation record of these numbers: node, flags, current capabilities, preset.
 fn preset_of(numbers: &[u32]) -> Option<Item>
     ensures { result ≡ preset_of numbers.now }
 {
@@ -107,6 +115,7 @@ fn preset_of(numbers: &[u32]) -> Option<Item>
     }))
 }
 
+/// A power, reset or shutdown record of these numbers: node, line or subtype, and mask.
 fn pair_of(numbers: &[u32]) -> Option<Pair>
     ensures { result ≡ pair_of numbers.now }
 {
@@ -116,6 +125,7 @@ fn pair_of(numbers: &[u32]) -> Option<Pair>
     Some(Pair { key, mask })
 }
 
+/// A set-configuration record of these numbers: base mask, overlay mask.
 fn config_of(numbers: &[u32]) -> Option<Item>
     ensures { result ≡ config_of numbers.now }
 {
@@ -125,6 +135,7 @@ fn config_of(numbers: &[u32]) -> Option<Item>
     Some(Item::Config(base, overlay))
 }
 
+/// The word of a GPO section.
 fn gpo_of(numbers: &[u32]) -> Option<Item>
     ensures { result ≡ gpo_of numbers.now }
 {
@@ -134,6 +145,7 @@ fn gpo_of(numbers: &[u32]) -> Option<Item>
     Some(Item::Gpo(word))
 }
 
+/// What a line with this keyword and these numbers says, if it has as many as it takes.
 fn record_of(keyword: Keyword, numbers: Numbers) -> Option<Item>
     ensures { result ≡ record_of keyword numbers.items }
 {
@@ -153,6 +165,7 @@ fn record_of(keyword: Keyword, numbers: Numbers) -> Option<Item>
     }
 }
 
+/// What a line with this keyword says, if it has the right words.
 fn keyword_item(keyword: Keyword, line: &[u8]) -> Option<Item>
     ensures { result ≡ keyword_item keyword (word_texts line.now) }
 {
@@ -162,7 +175,7 @@ fn keyword_item(keyword: Keyword, line: &[u8]) -> Option<Item>
     }
 }
 
-/// What a line says; `None` where it is too long, isn't ASCII, or has an unknown word, a wrong
+/// What a line says; `None` if it is too long, isn't ASCII, or has an unknown word, a wrong
 /// count or a bad number.
 #[tactic(auto, unfolding(crate::specs::Reading::item_of))]
 pub fn item_of(line: &[u8]) -> Option<Item>

@@ -10,7 +10,7 @@ use pm_object::Section;
 pub enum Stage {
     /// Before the header.
     Start,
-    /// After a header line, which has 16 extra words where it is full.
+    /// After a header line, which has 16 extra words if it is full.
     Header { full: bool },
     /// In a section. One that has exactly one record is filled once it is there.
     In { section: Section, filled: bool },

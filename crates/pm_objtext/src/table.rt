@@ -38,6 +38,7 @@ impl<T: Keyed> Table<T> {
         }
     }
 
+    /// Whether there is no record.
     pub fn is_empty(&self) -> bool
         ensures { result ≡ (length self.now == 0) }
     {
