@@ -9,7 +9,7 @@ use pm_object::Object;
 use pm_topology::{MasterDef, Topology};
 
 /// The place in the object of the master that a processor belongs to: the first of its masters that has
-/// the processor in the chip's table. `None` where none has it.
+/// the processor in the chip's table. `None` if none has it.
 pub fn owner_of(object: &Object, t: &Topology, proc: NodeId) -> Option<usize>
     ensures { result ≡ owner object.now t.now proc }
 {
@@ -30,6 +30,7 @@ pub fn has_processor(t: &Topology, master: u32, proc: NodeId) -> bool
         .any(|def| def.node.0 == master && lists(def, proc))
 }
 
+/// Whether a master's list has the processor.
 fn lists(def: &MasterDef, proc: NodeId) -> bool
     ensures { result ≡ list_any (λ p. p.0 == proc.0) def.now.procs }
 {

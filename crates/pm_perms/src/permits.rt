@@ -10,7 +10,7 @@ use pm_base::{LineId, NodeId};
 use pm_object::{MasterRec, Object, Pair, SlaveRec};
 use pm_topology::{Kind, Topology};
 
-/// The object's record of the slave with a number, where there is one.
+/// The object's record of the slave with a number, if there is one.
 pub fn slave_record(object: &Object, slave: NodeId) -> Option<SlaveRec>
     ensures { result ≡ spec.slave_record object.now slave }
 {
@@ -22,7 +22,7 @@ pub fn slave_record(object: &Object, slave: NodeId) -> Option<SlaveRec>
         .find(|entry| entry.node == slave.0)
 }
 
-/// The object's master with a number, where there is one.
+/// The object's master with a number, if there is one.
 fn master_record(object: &Object, master: NodeId) -> Option<MasterRec>
     ensures { result ≡ spec.master_record object.now master }
 {
@@ -34,14 +34,14 @@ fn master_record(object: &Object, master: NodeId) -> Option<MasterRec>
         .find(|entry| entry.node == master.0)
 }
 
-/// The record with a key, where there is one.
+/// The record with a key, if there is one.
 fn pair_record(pairs: &[Pair], key: u32) -> Option<Pair>
     ensures { result ≡ spec.pair_record pairs.now key }
 {
     pairs.iter().copied().find(|entry| entry.key == key)
 }
 
-/// The mask of the record with a key, where there is one.
+/// The mask of the record with a key, if there is one.
 fn pair_mask(pairs: &[Pair], key: u32) -> Option<u32>
     ensures { result ≡ spec.pair_mask pairs.now key }
 {
@@ -118,7 +118,7 @@ pub fn may_reset(object: &Object, t: &Topology, master: NodeId, line: LineId) ->
 }
 
 /// Whether a master may shut down: itself (subtype 0) always, the power supply's domain and the system
-/// (subtypes 1 and 2) where the mask of the object's shutdown record of the subtype has its bit.
+/// (subtypes 1 and 2) if the mask of the object's shutdown record of the subtype has its bit.
 pub fn may_shut(object: &Object, _t: &Topology, master: NodeId, subtype: u32) -> bool
     ensures { result ≡ spec.may_shut object.now _t.now master subtype }
 {
@@ -137,24 +137,28 @@ pub fn may_configure(object: &Object, _t: &Topology, master: NodeId) -> bool
     is_in(master_record(object, master), Some(object.base_mask))
 }
 
+/// The place of a slave, if the topology has it.
 fn slave_place(t: &Topology, slave: NodeId) -> Option<usize>
     ensures { result ≡ slave_place t.now.slaves slave.0 }
 {
     t.slaves.as_slice().iter().position(|def| def.node == slave)
 }
 
+/// Whether the mask of a slave's record has the bit of a master; not if one of them isn't there.
 fn may_use_by(master: Option<MasterRec>, entry: Option<SlaveRec>) -> bool
     ensures { result ≡ spec.may_use_by master entry }
 {
     is_in(master, entry.map(|entry| entry.mask))
 }
 
+/// Whether a node is of a kind that can be forced down: a processor or a power node (UG1200, PM_FORCE_POWERDOWN).
 fn can_be_forced(kind: Kind) -> bool
     ensures { result ≡ spec.can_be_forced kind }
 {
     matches!(kind, Kind::Proc(_) | Kind::Power(_))
 }
 
+/// Whether the topology has a reset line.
 fn has_line(t: &Topology, line: LineId) -> bool
     ensures { result ≡ has_line line.0 t.now.lines }
 {

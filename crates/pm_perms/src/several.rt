@@ -30,7 +30,7 @@ pub enum Act {
     Configure,
 }
 
-/// The masters of the objects: those of the first, since all have the same. None where there is no object.
+/// The masters of the objects: those of the first, since all have the same. None if there is no object.
 pub fn masters_of(objects: &[Object]) -> &[MasterRec]
     ensures { result.now ≡ spec.masters_of objects.now }
 {
@@ -55,6 +55,7 @@ pub fn may(object: &Object, t: &Topology, master: NodeId, act: Act) -> bool
     }
 }
 
+/// Whether at least one of these objects permits it.
 fn any_may(objects: &[Object], t: &Topology, master: NodeId, act: Act) -> bool
     ensures { result ≡ list_any (λ object. spec.may object t.now master act) objects.now }
 {
