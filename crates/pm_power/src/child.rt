@@ -26,6 +26,7 @@ pub(crate) fn idle_children(alloc: Global, t: &Topology) -> Result<Vec<Child>, N
     Ok(children)
 }
 
+/// Puts the slaves at the end, as units below their power nodes that need no power.
 fn push_slaves(children: &mut Vec<Child>, slaves: &[SlaveDef]) -> Result<(), NoMemory>
     ensures { IfOk result
         (λ _. children.new.items ≡ children.old.items ++ map (λ s. child s.node s.parent false) slaves.now) }
@@ -36,6 +37,7 @@ fn push_slaves(children: &mut Vec<Child>, slaves: &[SlaveDef]) -> Result<(), NoM
     Ok(())
 }
 
+/// Puts the processors at the end, as units below their power nodes that need no power.
 fn push_procs(children: &mut Vec<Child>, procs: &[ProcDef]) -> Result<(), NoMemory>
     ensures { IfOk result
         (λ _. children.new.items ≡ children.old.items ++ map (λ p. child p.node p.parent false) procs.now) }
@@ -57,6 +59,7 @@ fn idle(node: NodeId, parent: usize) -> Child
     }
 }
 
+/// Puts a unit at the end.
 fn push(children: &mut Vec<Child>, child: Child) -> Result<(), NoMemory>
     ensures { IfOk result (λ _. children.new.items ≡ children.old.items ++ child ∷ []) }
 {

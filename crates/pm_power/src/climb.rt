@@ -40,7 +40,7 @@ pub(crate) fn count<L: Ledger>(counts: &mut Counts, w: usize, on: bool, steps: &
     }
 }
 
-/// Sets whether the child at a place needs its power node, and counts it there; where that power node
+/// Sets whether the child at a place needs its power node, and counts it there; if that power node
 /// goes up or down, it is counted at its own parent in turn. So at most one count a level changes, and a
 /// power node that stays as it is ends the climb.
 pub(crate) fn put_need<L: Ledger>(

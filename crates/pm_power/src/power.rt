@@ -44,7 +44,7 @@ impl Power {
     ///
     /// # Errors
     ///
-    /// `NoMemory` where there is not enough memory.
+    /// `NoMemory` if there is not enough memory.
     pub fn load(alloc: Global, t: &Topology) -> Result<Power, NoMemory>
         requires { IsWellFormed t.now }
         ensures { IfOk result (λ power. power ≡ needs_of t.now (λ _. false)) }
@@ -145,7 +145,7 @@ impl Power {
         }
     }
 
-    /// What is kept of the power node at place `w`: whether it is up, and false where none stands there.
+    /// What is kept of the power node at place `w`: whether it is up, and false if none stands there.
     fn kept_up(&self, w: usize) -> bool
         ensures up { result ≡ is_up self.now w }
         ensures after { AreAfterParents self.now.powers }
@@ -153,7 +153,7 @@ impl Power {
         at_or(&self.ups, w, false)
     }
 
-    /// Whether the power node at place `w` is up: exactly where it is held or a processor, slave or
+    /// Whether the power node at place `w` is up: exactly if it is held or a processor, slave or
     /// power node directly below needs it.
     pub fn up(&self, w: usize) -> bool
         requires { w < length self.now.powers }
@@ -164,6 +164,7 @@ impl Power {
     }
 }
 
+/// The place of a power node, if there is one of this number.
 fn power_place(powers: &[PowerDef], node: NodeId) -> Option<usize>
     ensures { result ≡ power_place powers.now node.0 }
 {
