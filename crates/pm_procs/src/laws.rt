@@ -9,8 +9,8 @@ ghost use Rattle.pm_procs.specs.Pending.{all_ended, all_lowered, asked, ended, i
 ghost use Rattle.pm_procs.specs.Procs.{all_off, all_turned_off, has_member, master_mode_in, members_at, mode_at, proc_at, with_address, with_mode};
 
 /// A processor that goes to a mode has it then, and no other processor and no master that doesn't have
-/// it notices; nor does any when a resume address is set. A master is active where one of its
-/// processors is, off where all are, and all are off at load, and after all of them went off.
+/// it notices; nor does any when a resume address is set. A master is active if one of its
+/// processors is, off if all are, and all are off at load, and after all of them went off.
 pub fn modes_of_masters()
     ensures goes { (p : ℕ) (to : Mode) (procs : List Proc) → p < length procs → mode_at p (with_mode p to procs) ≡ to }
     ensures others { (p q : ℕ) (to : Mode) (procs : List Proc) → q ≢ p

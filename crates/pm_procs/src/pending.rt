@@ -46,7 +46,7 @@ impl Pending {
         }
     }
 
-    /// Whether the request is due where so many units of time pass: no more than that is left of its
+    /// Whether the request is due if so many units of time pass: no more than that is left of its
     /// time. One of which no time is left is due in any tick, also in one of 0 units.
     pub fn is_due(&self, count: u32) -> bool
         ensures { result ≡ spec.is_due count self.now }
@@ -76,7 +76,7 @@ pub(crate) fn none_pending(alloc: Global, masters: usize) -> Result<Vec<Option<P
     vec![in alloc; None; masters].map_err(|_| NoMemory)
 }
 
-/// Sets what is pending on the master at a place. Nothing changes where it isn't there.
+/// Sets what is pending on the master at a place. Nothing changes if it isn't there.
 pub(crate) fn set_pending(pending: &mut [Option<Pending>], master: usize, request: Option<Pending>)
     ensures { pending.new ≡ slice_set pending.old master request }
 {

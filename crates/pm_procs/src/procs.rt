@@ -87,7 +87,7 @@ impl Procs {
     ///
     /// # Errors
     ///
-    /// `NoMemory` where there is not enough memory.
+    /// `NoMemory` if there is not enough memory.
     pub fn load(alloc: Global, t: &Topology, members: List<List<usize>>) -> Result<Procs, NoMemory>
         ensures procs { IfOk result (λ loaded. loaded.procs ≡ all_off (length t.now.procs)) }
         ensures members { IfOk result (λ loaded. loaded.members ≡ members) }
@@ -127,7 +127,7 @@ impl Procs {
     }
 
     /// The processor at a place goes to a mode. Going off sets its resume address to 0. Nothing changes
-    /// where it isn't there.
+    /// if it isn't there.
     pub fn put(&mut self, p: usize, to: Mode)
         ensures { self.new ≡ record self.old { procs = with_mode p to self.old.procs } }
     {
@@ -135,7 +135,7 @@ impl Procs {
         self.set(p, proc);
     }
 
-    /// The processor at a place resumes at an address from now on. Nothing changes where it isn't
+    /// The processor at a place resumes at an address from now on. Nothing changes if it isn't
     /// there.
     pub fn put_resume(&mut self, p: usize, address: u64)
         ensures { self.new ≡ record self.old { procs = with_address p address self.old.procs } }
@@ -144,7 +144,7 @@ impl Procs {
         self.set(p, Proc { mode, address });
     }
 
-    /// The processor at a place is this one from now on. Nothing changes where it isn't there.
+    /// The processor at a place is this one from now on. Nothing changes if it isn't there.
     pub fn set(&mut self, p: usize, proc: Proc)
         ensures { self.new ≡ record self.old { procs = slice_set self.old.procs p proc } }
     {
@@ -196,7 +196,7 @@ impl Procs {
     }
 
     /// A request to suspend is pending on a master from now on, in place of one that was. Nothing changes
-    /// where the master isn't there.
+    /// if the master isn't there.
     pub fn ask(&mut self, m: usize, request: Pending)
         ensures { self.new ≡ record self.old { pending = asked m request self.old.pending } }
     {
@@ -218,7 +218,7 @@ impl Procs {
     }
 
     /// So many units of time pass: of each pending request that is due some time, what is left of its
-    /// time is less by that, or 0 where it was no more.
+    /// time is less by that, or 0 if it was no more.
     pub fn tick(&mut self, count: u32)
         ensures { self.new ≡ record self.old { pending = all_lowered count self.old.pending } }
     {
