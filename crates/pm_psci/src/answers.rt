@@ -20,7 +20,7 @@ const ON: i32 = 0;
 const OFF: i32 = 1;
 
 /// What a call is answered, from the reply to its message. A refused call needs no reply; any other is answered
-/// nothing where there is none, and CPU_OFF, SYSTEM_OFF and SYSTEM_RESET are answered nothing where they are done.
+/// nothing if there is none, and CPU_OFF, SYSTEM_OFF and SYSTEM_RESET are answered nothing if they are done.
 pub fn answer(t: &Topology, smc: &Smc, reply: Option<&Response>) -> Option<i32>
     ensures { result ≡ answered t.now smc.now (option_copied reply.entry) }
 {
@@ -56,7 +56,7 @@ fn started(status: u32) -> i32
     }
 }
 
-/// What AFFINITY_INFO is answered of a target in a mode: it is on where it is active or suspending.
+/// What AFFINITY_INFO is answered of a target in a mode: it is on if it is active or suspending.
 fn affinity(mode: u32) -> i32
     ensures { result ≡ affinity mode }
 {

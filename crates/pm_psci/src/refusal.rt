@@ -14,8 +14,8 @@ pub(crate) const INVALID_PARAMETERS: i32 = -2;
 /// The caller may not do it.
 pub(crate) const DENIED: i32 = -3;
 
-/// What a call is answered that sends no message: `DENIED` where the caller is no processor of master 1, else
-/// `NOT_SUPPORTED` where no function has the number, else `INVALID_PARAMETERS` where an argument is outside its
+/// What a call is answered that sends no message: `DENIED` if the caller is no processor of master 1, else
+/// `NOT_SUPPORTED` if no function has the number, else `INVALID_PARAMETERS` if an argument is outside its
 /// range.
 pub(crate) fn refusal(t: &Topology, smc: &Smc) -> Option<i32>
     ensures { result ≡ refusal t.now smc.now }

@@ -23,7 +23,7 @@ pub(crate) fn is_target(t: &Topology, node: NodeId) -> bool
     targets(t).iter().any(|target| target.0 == node.0)
 }
 
-/// The target at a place, where there is one.
+/// The target at a place, if there is one.
 pub(crate) fn target_at(t: &Topology, place: u64) -> Option<NodeId>
     ensures { result ≡ target_at t.now place }
 {
