@@ -46,7 +46,7 @@ fn brings_slave_for(objects: &[Object], t: &Topology, a: usize, slave: NodeId, w
     }
 }
 
-/// The first reason for which the master at place `a` brings in a slave: `None` where it doesn't.
+/// The first reason for which the master at place `a` brings in a slave: `None` if it doesn't.
 fn brings_slave(objects: &[Object], t: &Topology, a: usize, slave: NodeId) -> Option<Why>
     ensures { result ≡ spec.brings_slave objects.now t.now a slave }
 {
@@ -102,7 +102,7 @@ fn brings_power(objects: &[Object], t: &Topology, a: usize, w: usize) -> Option<
     }
 }
 
-/// Why the master at place `a` brings in a unit as a member of a kind: `None` where it doesn't, or where
+/// Why the master at place `a` brings in a unit as a member of a kind: `None` if it doesn't, or where
 /// the unit is of another kind.
 pub fn brings(
     objects: &[Object],

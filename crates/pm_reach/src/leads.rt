@@ -28,7 +28,7 @@ pub fn master_count(objects: &[Object]) -> usize
     masters_of(objects).len()
 }
 
-/// The number of the master at a place, and 0 where there is none.
+/// The number of the master at a place, and 0 if there is none.
 pub fn node_at(objects: &[Object], place: usize) -> NodeId
     ensures { result ≡ spec.node_at objects.now place }
 {
@@ -135,7 +135,7 @@ fn leads_for(objects: &[Object], t: &Topology, a: usize, b: usize, why: Why) -> 
     }
 }
 
-/// The first reason for which the master at place `a` leads to the one at `b`: `None` where it doesn't.
+/// The first reason for which the master at place `a` leads to the one at `b`: `None` if it doesn't.
 pub fn lead(objects: &[Object], t: &Topology, a: usize, b: usize) -> Option<Why>
     ensures { result ≡ spec.lead objects.now t.now a b }
 {

@@ -23,7 +23,7 @@ use std::slice;
 ///
 /// # Errors
 ///
-/// `NoMemory` where there is not enough memory.
+/// `NoMemory` if there is not enough memory.
 pub fn reach(alloc: Global, objects: &[Object], t: &Topology, m: NodeId) -> Result<Reach, NoMemory>
     requires { IsTrue (list_any (λ r. r.node == m.0) (masters_of objects.now)) }
     ensures { IfOk result (λ found. spec.IsReach objects.now t.now m found.members) }
@@ -44,7 +44,7 @@ pub fn reach(alloc: Global, objects: &[Object], t: &Topology, m: NodeId) -> Resu
 ///
 /// # Errors
 ///
-/// `NoMemory` where there is not enough memory.
+/// `NoMemory` if there is not enough memory.
 pub fn reach_by_one(
     alloc: Global,
     object: &Object,
@@ -128,7 +128,7 @@ fn member_by(
     })
 }
 
-/// The member for the master at a place, where a path leads to it.
+/// The member for the master at a place, if a path leads to it.
 fn master_member(
     alloc: Global,
     objects: &[Object],
@@ -180,7 +180,7 @@ fn unit_number(unit: Unit) -> u32
     }
 }
 
-/// The member for a unit, where a master of the reach brings it in.
+/// The member for a unit, if a master of the reach brings it in.
 fn unit_member(
     alloc: Global,
     objects: &[Object],
