@@ -54,7 +54,7 @@ pub record IsFront (shown : Type 0) (id : ℕ) (first now : Moment) (events : Li
   pub other : front.taken ≡ Line → IsOther pieces front.line.items
   pub answered : Answered (Behind events) shown id (length events) first now front.taken front.line.items front.reader
 
--- the same of some events and some pieces, of which this is kept
+-- first lines that were read ahead, of some events and some pieces, of which this is kept
 pub record ReadAhead (shown : Type 0) (id : ℕ) (first now : Moment) (block : List Piece) (front : Front) : Type 0 where
   pub events : List Event
   pub pieces : List Piece

@@ -101,7 +101,7 @@ pub record Turn (shown : Type 0) (id : ℕ) (before after : Moment) (old new : H
 abbrev pub ComesOn : ℕ → Held → Held → List Call → Type 0
 ComesOn id old new calls = Comes id old.credit old.ended new.credit new.ended calls
 
--- the same by what it gave: at Fault the last call is the read that failed
+-- its reads by what it gave: at Fault the last call is the read that failed
 abbrev pub HasRead : Taken → ℕ → Held → Held → List Call → Type 0
 HasRead Line id old new calls = ComesOn id old new calls
 HasRead End id old new calls = ComesOn id old new calls

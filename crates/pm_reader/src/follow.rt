@@ -30,7 +30,7 @@ pub trait Follower {
     ///
     /// # Errors
     ///
-    /// `Failed` where no further line is to be followed.
+    /// `Failed` if no further line is to be followed.
     fn line(&mut self, number: u32, event: &Event) -> Result<(), Failed>
         ensures { Follows number event.now self.old self.new result };
 }
@@ -67,7 +67,7 @@ impl Front {
     ///
     /// # Errors
     ///
-    /// `NoMemory` where there is not enough memory for the words.
+    /// `NoMemory` if there is not enough memory for the words.
     pub fn read<I: Inputs>(
         alloc: Global,
         inputs: &mut I,
@@ -102,7 +102,7 @@ impl Front {
     ///
     /// # Errors
     ///
-    /// `Bad` for the first line that has no meaning, and `Broken` where the follower failed at one before it.
+    /// `Bad` for the first line that has no meaning, and `Broken` if the follower failed at one before it.
     pub fn follow<I: Inputs, F: Follower>(
         &mut self,
         inputs: &mut I,

@@ -75,9 +75,9 @@ impl LineReader {
         // Where it saw the end of this input, the input is at its end.
         ensures knows { KnowsEnd I.observable id self.old (I.state inputs.old)
             → KnowsEnd I.observable id self.new (I.state inputs.new) }
-        // Fault comes only where the inputs' count of faults rose.
+        // Fault comes only if the inputs' count of faults rose.
         ensures fault { result ≡ Taken.Fault → Rose (I.state inputs.old).faults (I.state inputs.new).faults }
-        // Where the inputs are observable, Fault comes only where the input stands at its failing byte.
+        // If the inputs are observable, Fault comes only if the input stands at its failing byte.
         ensures stuck { I.observable → result ≡ Taken.Fault → IsStuck ((I.state inputs.new).input id) }
         // It read on in this input and did nothing else, and nothing after it saw the end or took the byte past the
         // limit.
@@ -127,7 +127,7 @@ impl LineReader {
         Some(Meant::Event)
     }
 
-    /// The same of any line: its line feed is found first.
+    /// The event of the next line, if it is held whole, for a line that can't be read at once: its line feed is found first.
     #[inline(never)]
     fn give_by_feed(&mut self, event: &mut Event) -> Option<Meant>
         requires { 0 < self.old.credit }
@@ -140,7 +140,7 @@ impl LineReader {
         Some(meant)
     }
 
-    /// The same of any line, which is taken into `line` first.
+    /// The event of the next line, for a line that isn't held whole: it is taken into `line`, and read there.
     #[inline(never)]
     fn take_meant<I: Inputs>(
         &mut self,
@@ -156,7 +156,7 @@ impl LineReader {
         meant_of(taken, line.as_slice(), event)
     }
 
-    /// The answer, where what is held decides it.
+    /// The answer, if what is held decides it.
     fn give(&mut self, line: &mut LineBuf) -> Option<Taken>
         ensures calm { IfSome result (λ taken. taken ≢ Taken.Fault) }
         ensures gives { MatchOption result (NeedsMore self.old self.new)
@@ -174,7 +174,7 @@ impl LineReader {
         }
     }
 
-    /// The answer where no line is held whole, if that decides it.
+    /// The answer if no line is held whole, if that decides it.
     fn give_open(&mut self, line: &mut LineBuf) -> Option<Taken>
         requires none { position (λ byte. byte == 10) (take 256 (within self.old)) ≡ None }
         requires room { array_vec_len line.old ≡ 0 }
@@ -277,7 +277,7 @@ fn first_feed(text: &[u8]) -> Option<usize>
     }
 }
 
-/// The same of a few bytes, one after another.
+/// The place of the first line feed, found byte by byte: for texts of a few bytes.
 fn feed_in(text: &[u8]) -> Option<usize>
     ensures { result ≡ position (λ byte. byte == 10) text.now }
 {
