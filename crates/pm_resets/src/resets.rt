@@ -27,7 +27,7 @@ impl Resets {
     ///
     /// # Errors
     ///
-    /// `NoMemory` where there is not enough memory.
+    /// `NoMemory` if there is not enough memory.
     pub fn load(alloc: Global, lines: usize) -> Result<Resets, NoMemory>
         ensures { IfOk result (λ resets. resets ≡ all_released lines) }
     {
@@ -43,7 +43,7 @@ impl Resets {
     }
 
     /// The line at a place is asserted or released from now on (UG1200, PM_RESET_ASSERT). Nothing changes
-    /// where it isn't there.
+    /// if it isn't there.
     pub fn put(&mut self, l: usize, asserted: bool)
         ensures { self.new ≡ with_line l asserted self.old }
     {
@@ -60,12 +60,14 @@ impl Resets {
     }
 }
 
+/// As many reset lines, all released.
 fn released(alloc: Global, lines: usize) -> Result<Vec<bool>, NoMemory>
     ensures { IfOk result (λ asserted. asserted.items ≡ all_released lines) }
 {
     vec![in alloc; false; lines].map_err(|_| NoMemory)
 }
 
+/// The value of a reset line: 1 if it is asserted.
 fn number(asserted: bool) -> u32
     ensures { result ≡ line_value asserted }
 {
