@@ -59,7 +59,8 @@ pub(crate) fn follow_capability<L: Ledger>(
     follow(counts, place, has(before, bit), has(after, bit), steps);
 }
 
-/// The same of each capability that is counted. Where the row wants what it wanted before, no count moves.
+/// Counts a row that wanted some capabilities before, and wants others from now on, by each capability. If these are
+/// the same no count moves.
 pub(crate) fn follow_wants<L: Ledger>(
     access: &mut Counts,
     context: &mut Counts,
@@ -151,7 +152,7 @@ pub(crate) fn follow_needs<L: Ledger>(
     }
 }
 
-/// A value where a count isn't 0.
+/// A value if a count isn't 0.
 pub(crate) fn flag(count: u32, value: u32) -> u32
     ensures value { result ≡ flag count value }
     ensures bound { result ≤ value }

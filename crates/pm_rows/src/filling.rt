@@ -10,6 +10,7 @@ use crate::table::Table;
 use pm_base::{Mode, Steps};
 use std::sync::ledger::Ledger;
 
+/// The seed at a place.
 fn seed_at(seeds: &[RowSeed], k: usize) -> RowSeed
     requires { k < length seeds.now }
     ensures { slice_get seeds.now k ≡ Some result }

@@ -107,7 +107,7 @@ fn blank_row() -> Row
     }
 }
 
-/// Two values, of which each may be missing, where neither is.
+/// Two values, of which each may be missing, if neither is.
 fn both<T: Drop, U: Drop>(
     first: Result<T, NoMemory>,
     second: Result<U, NoMemory>,

@@ -18,7 +18,7 @@ ghost use Rattle.pm_rows.specs.Wanted.{wanted_of};
 
 /// Rows at load are sound, and so are rows that are made anew, for whatever pairs. Each operation keeps them so: a change
 /// of a row that fits, a change of a master's mode, dropped holds, and rows that are cleared, on one slave or all. In sound
-/// rows a pair has a row exactly where it is permitted, and what is wanted of a slave is within its capabilities.
+/// rows a pair has a row exactly if it is permitted, and what is wanted of a slave is within its capabilities.
 pub fn rows_stay_sound()
     ensures load { (masters slaves boot room : ℕ) (seeds : List RowSeed)
         → AreOnce (map pair_of seeds) → All (IsLoadable masters boot) seeds

@@ -87,7 +87,7 @@ fn put_at<L: Ledger>(table: &mut Table, k: usize, known: &[Mode], pass: Pass, st
     table.put(k, entry, from, row, to, steps);
 }
 
-/// The same where the requirement of a row is set.
+/// Sets the requirement of the row at a place, by its master's mode, and counts it.
 #[inline(always)]
 fn set_at<L: Ledger>(
     table: &mut Table,
@@ -108,7 +108,7 @@ fn set_at<L: Ledger>(
     table.put_alike(k, entry, is, row, is, steps);
 }
 
-/// The same where a row is armed or disarmed.
+/// Arms the row at a place with a processor, or disarms it, and counts it.
 #[inline(always)]
 fn arm_at<L: Ledger>(
     table: &mut Table,
@@ -128,7 +128,7 @@ fn arm_at<L: Ledger>(
     table.put_alike(k, entry, is, row, is, steps);
 }
 
-/// The same where a row is used from now on.
+/// Uses the row at a place from now on, with these capabilities, and counts it.
 #[inline(always)]
 fn request_at<L: Ledger>(
     table: &mut Table,
@@ -148,7 +148,7 @@ fn request_at<L: Ledger>(
     table.put(k, entry, is, row, is, steps);
 }
 
-/// The same where a row isn't used any more.
+/// Ends the use of the row at a place, and counts it.
 #[inline(always)]
 fn release_at<L: Ledger>(table: &mut Table, k: usize, known: &[Mode], steps: &mut Steps<L>)
     requires within { k < length table.old.entries }
@@ -162,7 +162,7 @@ fn release_at<L: Ledger>(table: &mut Table, k: usize, known: &[Mode], steps: &mu
     table.put(k, entry, is, row, is, steps);
 }
 
-/// The same where a row allows a latency.
+/// Sets the greatest latency that the row at a place allows, and counts it.
 #[inline(always)]
 fn limit_at<L: Ledger>(
     table: &mut Table,
@@ -182,7 +182,7 @@ fn limit_at<L: Ledger>(
     table.put(k, entry, is, row, is, steps);
 }
 
-/// The same of any change of the row of a pair.
+/// Makes a change of the row of a pair, which is at a place, and counts it.
 #[inline(always)]
 fn change_at<L: Ledger>(
     table: &mut Table,
@@ -206,7 +206,7 @@ fn change_at<L: Ledger>(
     }
 }
 
-/// The same of any pass.
+/// Changes the row at a place as a pass asks, and counts it.
 #[inline(always)]
 fn pass_at<L: Ledger>(table: &mut Table, k: usize, known: &[Mode], pass: Pass, steps: &mut Steps<L>)
     requires within { k < length table.old.entries }

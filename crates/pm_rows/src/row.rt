@@ -62,8 +62,8 @@ pub enum Change {
     Request(Caps),
     /// The row isn't used any more, and requires nothing. Its arming and its hold stay.
     Release,
-    /// The row requires these capabilities: at once where its master is active, and from its sleep on
-    /// where it is suspending. In another mode nothing changes.
+    /// The row requires these capabilities: at once if its master is active, and from its sleep on
+    /// if it is suspending. In another mode nothing changes.
     Set(Mode, Caps),
     /// The row allows this latency at most.
     Limit(u32),

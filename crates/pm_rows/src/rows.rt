@@ -121,28 +121,28 @@ impl Rows {
         self.table.peek(k)
     }
 
-    /// The row of a pair with its pair, which is there where the pair is permitted.
+    /// The row of a pair with its pair, which is there if the pair is permitted.
     pub fn entry_at(&self, master: usize, slave: usize) -> Option<Entry>
         ensures { result ≡ entry_at master slave self.now }
     {
         found(&self.table, Sought::At(master, slave))
     }
 
-    /// The row of a pair, which is there where the pair is permitted.
+    /// The row of a pair, which is there if the pair is permitted.
     pub fn row(&self, master: usize, slave: usize) -> Option<Row>
         ensures { result ≡ row_at master slave self.now }
     {
         self.entry_at(master, slave).map(|entry| entry.row)
     }
 
-    /// The place of another master that uses this slave, where the slave can't be shared.
+    /// The place of another master that uses this slave, if the slave can't be shared.
     pub fn rival(&self, master: usize, slave: usize) -> Option<usize>
         ensures { result ≡ rival_of master slave self.now }
     {
         found(&self.table, Sought::Rival(master, slave)).map(|entry| entry.seed.master)
     }
 
-    /// Changes the row of a pair, where it is there, and no other. Each row that is read and each count that
+    /// Changes the row of a pair, if it is there, and no other. Each row that is read and each count that
     /// changes is a step.
     #[inline(always)]
     pub fn change<L: Ledger>(

@@ -19,6 +19,7 @@ pub(crate) enum Sought {
 }
 
 impl Sought {
+    /// The place of the slave whose rows are searched.
     fn slave(self) -> usize
         ensures { result ≡ slave_of self }
     {
@@ -30,6 +31,7 @@ impl Sought {
         }
     }
 
+    /// Whether this is a row that is sought.
     fn is(self, entry: &Entry) -> bool
         ensures { result ≡ is_sought self entry.now }
     {

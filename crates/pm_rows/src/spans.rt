@@ -17,6 +17,7 @@ pub(crate) struct Spans {
     pub(crate) past: Vec<usize>,
 }
 
+/// The pair at a place.
 fn seed_at(seeds: &[Pair], k: usize) -> Pair
     requires { k < length seeds.now }
     ensures { slice_get seeds.now k ≡ Some result }
@@ -33,6 +34,7 @@ fn set_place(places: &mut [usize], slave: usize, place: usize)
     }
 }
 
+/// As many slaves, with this place for each.
 fn places(alloc: Global, slaves: usize, place: usize) -> Result<Vec<usize>, NoMemory>
     ensures { IfOk result (λ places. places.items ≡ replicate slaves place) }
 {

@@ -59,6 +59,7 @@ impl Model for Table {
         table.spans.past.items × (table.room ≡ length table.cells) };
 }
 
+/// The pair at a place.
 fn pair_at(pairs: &[Pair], k: usize) -> Pair
     requires { k < length pairs.now }
     ensures { slice_get pairs.now k ≡ Some result }
@@ -229,7 +230,7 @@ impl Table {
         self.limits.write(slave, limit);
     }
 
-    /// The same of a row that is used and limited as the one before: what it wants alone is counted.
+    /// Puts a row that is used and limited as the one before: only what it wants is counted.
     #[inline(always)]
     pub(crate) fn put_alike<L: Ledger>(
         &mut self,

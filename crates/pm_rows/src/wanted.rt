@@ -24,6 +24,7 @@ pub(crate) fn least(a: Option<u32>, b: Option<u32>) -> Option<u32>
     }
 }
 
+/// The capabilities of both sets.
 fn both(a: Caps, b: Caps) -> Caps
     ensures { result ≡ both a b }
 {
@@ -38,12 +39,14 @@ pub(crate) fn arming_differs(from: Mode, to: Mode) -> bool
 }
 
 impl Entry {
+    /// What the row wants by its use: what it requires now.
     fn by_use(&self) -> Caps
         ensures { result ≡ by_use self.now }
     {
         if self.row.used { self.row.now } else { Caps(0) }
     }
 
+    /// What the row wants by its arming: WAKEUP while its master is asleep, if the slave has that.
     fn by_arming(&self, mode: Mode) -> Caps
         ensures { result ≡ by_arming mode self.now }
     {
@@ -53,6 +56,7 @@ impl Entry {
         }
     }
 
+    /// What the row wants by a hold: all capabilities of the slave.
     fn by_hold(&self) -> Caps
         ensures { result ≡ by_hold self.now }
     {
