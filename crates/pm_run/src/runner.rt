@@ -34,7 +34,7 @@ impl Runner {
     ///
     /// # Errors
     ///
-    /// `NoMemory` where there is not enough memory.
+    /// `NoMemory` if there is not enough memory.
     pub fn load(
         alloc: Global,
         object: Object,
