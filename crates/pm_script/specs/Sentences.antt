@@ -26,7 +26,7 @@ is_address word = is_some (address_of_word word)
 abbrev pub number_of_place : List (List ℕ) → ℕ → ℕ
 number_of_place words k = unwrap_or (option_and_then number_of_word (slice_get words k)) 0
 
--- the same of a number of 64 bits
+-- the number of 64 bits at a place, 0 if there is none
 abbrev pub address_of_place : List (List ℕ) → ℕ → ℕ
 address_of_place words k = unwrap_or (option_and_then address_of_word (slice_get words k)) 0
 

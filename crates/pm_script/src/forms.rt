@@ -25,6 +25,7 @@ pub(crate) enum Argument {
 }
 
 impl Default for Argument {
+    /// The number 0, which a missing argument is.
     fn default() -> Argument {
         Argument::Number(0)
     }
@@ -149,7 +150,7 @@ fn call_arguments(arguments: &[Argument]) -> [u64; 3]
     [argument(2), argument(3), argument(4)]
 }
 
-/// Leaves the event that a line's arguments make. Most lines are messages: where a message was left before, its words
+/// Leaves the event that a line's arguments make. Most lines are messages: if a message was left before, its words
 /// are written over.
 pub(crate) fn leave_event(kind: Kind, arguments: &[Argument], event: &mut Event)
     ensures { event.new ≡ event_of kind arguments.now }

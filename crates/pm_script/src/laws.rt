@@ -37,7 +37,7 @@ pub fn each_kind_has_its_sentence()
 {}
 
 /// What is read of a named script: one that can't be begun is none, and any other one is that of its lines. It
-/// can't be begun or read on only where what was read broke off by a failure, and it comes to its end only where
+/// can't be begun or read on only if what was read broke off by a failure, and it comes to its end only if
 /// the input holds it whole. Neither fails but for a cause that the inputs show.
 pub fn scripts_are_read()
     ensures unbegun { (p : Prefix) → p.stop ≡ Unbegun → script_of p ≡ None }

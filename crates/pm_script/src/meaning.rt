@@ -11,13 +11,13 @@ use crate::words::{LineWords, Places, first_places};
 use pm_base::Event;
 use pm_io::{TOO_LONG, without_return};
 
-/// Why a line of a script has no meaning. Where a line has several faults, the first of `Long`,
+/// Why a line of a script has no meaning. If a line has several faults, the first of `Long`,
 /// `NotAscii`, `Unknown`, `Count` and `Number` is answered.
 #[derive(Clone, Copy, Debug, PartialEq, Eq)]
 pub enum LineFault {
     /// The first word names no kind of line.
     Unknown = 1,
-    /// A word is no number, or doesn't fit 32 bits, or 64 bits where it is an address or an argument of a power call.
+    /// A word is no number, or doesn't fit 32 bits, or 64 bits if it is an address or an argument of a power call.
     Number = 2,
     /// There are too few or too many words.
     Count = 3,

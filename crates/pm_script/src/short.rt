@@ -79,7 +79,7 @@ struct ShortNumber {
 }
 
 /// Leaves what the first line of a text means, if it is a short line or a comment that ends at a line feed. The answer is
-/// the place of that line feed. Where it is none the event may be any, and the line may still have a meaning.
+/// the place of that line feed. If it is none the event may be any, and the line may still have a meaning.
 #[inline(always)]
 pub fn read_first(text: &[u8], event: &mut Event) -> Option<usize>
     ensures feed { IfSome result (λ feed. position (λ byte. byte == 10) text.now ≡ Some feed) }
@@ -284,7 +284,7 @@ fn leave(kind: Kind, numbers: &Numbers, event: &mut Event) -> bool
     true
 }
 
-/// Leaves the message of these numbers. Where a message was left before, its words are written over.
+/// Leaves the message of these numbers. If a message was left before, its words are written over.
 fn leave_message(numbers: &Numbers, event: &mut Event)
     ensures { event.new ≡ Event.Ipi (record { 0 = get_or numbers.now 0 0 }) (message_of_numbers numbers.now) }
 {
