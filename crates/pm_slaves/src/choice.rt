@@ -9,7 +9,7 @@ use pm_base::{Caps, List};
 use pm_topology::SlaveState;
 
 /// The place of the least state of a slave that meets the requirements in force: the first that has
-/// all of `caps` and a latency of at most `limit`, where there is one.
+/// all of `caps` and a latency of at most `limit`, if there is one.
 pub fn least_state(states: &List<SlaveState>, caps: Caps, limit: Option<u32>) -> u8
     requires few { length states.now ≤ 4 }
     requires last { LastHas states.now caps.0 }
@@ -22,7 +22,7 @@ pub fn least_state(states: &List<SlaveState>, caps: Caps, limit: Option<u32>) ->
     }
 }
 
-/// The place of the first state that has all of `caps` and a latency of at most `limit`. Where the
+/// The place of the first state that has all of `caps` and a latency of at most `limit`. If the
 /// last state is full, as in a well-formed topology, there is one for all capabilities of the slave.
 pub fn first_that_meets(states: &[SlaveState], caps: Caps, limit: Option<u32>) -> Option<usize>
     ensures place { result ≡ position (meets caps.0 limit) states.now }
@@ -32,6 +32,7 @@ pub fn first_that_meets(states: &[SlaveState], caps: Caps, limit: Option<u32>) -
     search(states, caps, limit)
 }
 
+/// The place of the first state that meets what is wanted, if one does.
 fn search(states: &[SlaveState], caps: Caps, limit: Option<u32>) -> Option<usize>
     ensures { result ≡ position (meets caps.0 limit) states.now }
 {
@@ -40,12 +41,14 @@ fn search(states: &[SlaveState], caps: Caps, limit: Option<u32>) -> Option<usize
         .position(|state| does_meet(state, caps, limit))
 }
 
+/// Whether a state has these capabilities, and a latency within the limit.
 fn does_meet(state: &SlaveState, caps: Caps, limit: Option<u32>) -> bool
     ensures { result ≡ meets caps.0 limit state.now }
 {
     state.caps.contains(caps) && is_within(state.latency, limit)
 }
 
+/// Whether a latency is within a limit, if there is one.
 fn is_within(latency: u32, limit: Option<u32>) -> bool
     ensures { result ≡ within latency limit }
 {
