@@ -37,7 +37,7 @@ impl Slot {
         self.into_parts().into_box()
     }
 
-    /// Takes out what the slot holds, which holds no controller until it is put back. `None`, and nothing changes, where
+    /// Takes out what the slot holds, which holds no controller until it is put back. `None`, and nothing changes, if
     /// there is not enough memory for that.
     pub fn take(&mut self, alloc: Global) -> Option<Box<Held>>
         ensures { MatchOption result (self.new.held ≡ self.old.held) (λ held. held.value ≡ self.old.held) }
@@ -55,6 +55,7 @@ impl Slot {
         *self = Slot::of(held);
     }
 
+    /// The slot of a box that was taken apart. Its pointer has no type, so that C may hold it.
     fn of_parts(parts: Parts<Held, Global>) -> Slot
         ensures { result.held ≡ parts.value }
     {
@@ -63,6 +64,7 @@ impl Slot {
         Slot { ptr, alloc }
     }
 
+    /// The parts of the slot's box, whose pointer has its type again.
     fn into_parts(self) -> Parts<Held, Global>
         ensures { result.value ≡ self.held }
     {
@@ -73,6 +75,7 @@ impl Slot {
 }
 
 impl Drop for Slot {
+    /// Gives the controller and its block back.
     fn drop(self) {
         drop(self.into_box());
     }
