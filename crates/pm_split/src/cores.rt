@@ -57,7 +57,7 @@ pub enum Source<'e> {
 }
 
 impl<'e> Source<'e> {
-    /// The core event, where this is the one that was made.
+    /// The core event, if this is the one that was made.
     pub fn event(self, made: &'e Event) -> &'e Event
         ensures { result.now ≡ core_event self.entry made.now }
     {
