@@ -22,6 +22,7 @@ impl Handler for Box<dyn Handler> {
 
     ghost last = { λ held. (Handler-box held).last held.value };
 
+    /// Calls the handler in the box.
     fn fire(&mut self, at: u64) -> u32 {
         (**self).fire(at)
     }
@@ -36,6 +37,7 @@ pub struct Counter {
 impl Handler for Counter {
     ghost calls = { λ counter. counter.calls };
 
+    /// Counts its calls, modulo 2^32, whatever the time.
     fn fire(&mut self, _at: u64) -> u32 {
         self.calls = self.calls.wrapping_add(1);
         self.calls

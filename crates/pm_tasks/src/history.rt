@@ -81,7 +81,7 @@ fn serve<H: Handler>(
 ///
 /// # Errors
 ///
-/// `AllocError` where there is not enough memory for the lines.
+/// `AllocError` if there is not enough memory for the lines.
 pub fn run<H: Handler>(
     tasks: &mut TasksOf<H>,
     events: &[Happening],

@@ -33,7 +33,7 @@ impl Plan {
     }
 }
 
-/// A handler with its plan: none where it is stopped.
+/// A handler with its plan: none if it is stopped.
 #[derive(Drop)]
 pub(crate) struct Task<H: Drop> {
     pub(crate) plan: Option<Plan>,

@@ -44,7 +44,7 @@ impl<H: Handler> TasksOf<H> {
     ///
     /// # Errors
     ///
-    /// `NoMemory` where there is not enough memory.
+    /// `NoMemory` if there is not enough memory.
     pub fn new(alloc: Global, limit: usize) -> Result<TasksOf<H>, NoMemory>
         ensures { IfOk result (λ tasks. timetable H.Handler tasks ≡ empty limit) }
     {
@@ -120,7 +120,7 @@ impl<H: Handler> TasksOf<H> {
         }
     }
 
-    /// Takes the task under a key out, and hands its handler back. `None` where no task has the key, and then
+    /// Takes the task under a key out, and hands its handler back. `None` if no task has the key, and then
     /// nothing changes.
     pub fn cancel(&mut self, key: usize) -> Option<H>
         requires { (timetable H.Handler self.old).left ≡ [] }
@@ -180,7 +180,7 @@ impl<H: Handler> TasksOf<H> {
         });
     }
 
-    /// Calls the due task with the least key that wasn't called since the time moved. `None` where none is left.
+    /// Calls the due task with the least key that wasn't called since the time moved. `None` if none is left.
     pub fn take(&mut self) -> Option<Fired>
         ensures none { IfNone result ((timetable H.Handler self.old).left ≡ []) }
         ensures done { IfNone result ((timetable H.Handler self.new).left ≡ []) }
