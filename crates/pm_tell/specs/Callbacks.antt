@@ -60,7 +60,7 @@ acknowledged_by No ended = []
 acknowledged_by Blocking ended = []
 acknowledged_by NonBlocking ended = record { node = ended.request.node; note = Ack ended.status } ∷ []
 
--- the same for the master at place k, where that asked
+-- the acknowledgement of an ended request to the master at place k, if that asked
 abbrev pub acknowledged_to : ℕ → Ended → List Waiting
 acknowledged_to k ended = if ended.request.by == k then acknowledged_by ended.request.ack ended else []
 
@@ -121,7 +121,7 @@ callback_by master node now (Ack status) = acknowledgement master node status no
 callback_by master node now Change = notification master node event.Change now
 callback_by master node now ZeroUsers = notification master node event.ZeroUsers now
 
--- the same in the book after the step
+-- the callback of what waits, in the book after the step
 abbrev pub callback_of : NodeId → State → Waiting → Callback
 callback_of master after waiting = callback_by master waiting.node (point waiting.node after) waiting.note
 

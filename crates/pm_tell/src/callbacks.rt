@@ -296,6 +296,7 @@ fn tell_news(
     tell_notices(tables, caches, k, master, telling.notices(), callbacks);
 }
 
+/// Puts out the acknowledgements (31) of ended requests that the master at place `k` made, in their order.
 fn tell_ended(
     tables: &Tables,
     caches: &Caches,
@@ -319,6 +320,7 @@ fn tell_ended(
     }
 }
 
+/// Puts out the notifications (32) of node events that the master at place `k` asked for, in their order.
 fn tell_notices(
     tables: &Tables,
     caches: &Caches,

@@ -16,7 +16,7 @@ pub struct Ended {
     pub status: u32,
 }
 
-/// How a request ends, by the first that holds: well where its target becomes asleep or off, as an
+/// How a request ends, by the first that holds: well if its target becomes asleep or off, as an
 /// aborted suspend, and as timed out.
 fn ends_with(down: bool, on: bool, due: bool) -> Option<u32>
     ensures { result ≡ spec.ends_with down on due }

@@ -34,6 +34,7 @@ pub(crate) fn keep_notes(tables: &mut Tables, telling: &Telling, k: usize)
     keep_notices(tables, k, telling.notices());
 }
 
+/// Keeps the acknowledgements of ended requests for the master at a place, which is asleep.
 fn keep_ended(tables: &mut Tables, k: usize, ended: &[Ended])
     ensures { tables.new ≡ talked (map (wait_of k) (flat_map (spec.acknowledged_to k) ended.now)) tables.old }
 {
@@ -42,6 +43,7 @@ fn keep_ended(tables: &mut Tables, k: usize, ended: &[Ended])
     }
 }
 
+/// Keeps the acknowledgement of an ended request, if the master at a place made it and wants a callback.
 fn keep_end(tables: &mut Tables, k: usize, end: &Ended)
     ensures { tables.new ≡ talked (map (wait_of k) (spec.acknowledged_to k end.now)) tables.old }
 {
@@ -50,6 +52,7 @@ fn keep_end(tables: &mut Tables, k: usize, end: &Ended)
     }
 }
 
+/// Keeps the node events that the master at a place, which is asleep, asked for.
 fn keep_notices(tables: &mut Tables, k: usize, notices: &[Waiting])
     ensures { tables.new
         ≡ talked (map (wait_of k) (flat_map (spec.noticed_by (notes_of_master k tables.old)) notices.now)) tables.old }
@@ -60,6 +63,7 @@ fn keep_notices(tables: &mut Tables, k: usize, notices: &[Waiting])
     }
 }
 
+/// Keeps a node event, if the master at a place asked for it.
 fn keep_notice(tables: &mut Tables, k: usize, notice: Waiting)
     ensures { tables.new ≡ talked (map (wait_of k) (spec.noticed_by (notes_of_master k tables.old) notice)) tables.old }
 {

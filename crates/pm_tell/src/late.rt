@@ -37,6 +37,7 @@ pub(crate) fn tell_late(tables: &Tables, ended: &[Ended], late: &mut BoundedList
     }
 }
 
+/// The late reply to whoever made a request that ended, if that was asked for.
 fn late_of(tables: &Tables, end: &Ended) -> Option<Late>
     ensures { option_to_list result ≡ spec.late_of tables.now end.now }
 {

@@ -51,6 +51,7 @@ fn forget(tables: &mut Tables, telling: &Telling)
     }
 }
 
+/// Drops the notifiers and notes of the master at a place, if it becomes off in this step.
 fn forget_master(tables: &mut Tables, telling: &Telling, m: usize)
     ensures { tables.new ≡ talked (forget_at (turns_in telling.now m) m) tables.old }
 {
@@ -70,6 +71,7 @@ fn say(tables: &mut Tables, says: Option<Say>)
     }
 }
 
+/// Takes the units of time that pass off each pending request to suspend.
 fn pass_time(tables: &mut Tables, count: Option<u32>)
     ensures { tables.new ≡ talked (lower_by count) tables.old }
 {

@@ -52,6 +52,7 @@ pub(crate) fn keep_own(tables: &mut Tables, served: &Option<Served>)
     }
 }
 
+/// Keeps an acknowledgement for the master at a place, if it is asleep.
 fn keep_at(tables: &mut Tables, m: usize, note: Option<Waiting>)
     ensures { tables.new ≡ talked (kept_at (Some m) (option_to_list note) tables.old) tables.old }
 {
