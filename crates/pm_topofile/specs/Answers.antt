@@ -18,6 +18,6 @@ GivesAs made (Err e) read = FailsAs e read
 abbrev pub Gives : {A : Type 0} → Result A TopologyError → Result A TopologyError → Type 0
 Gives result read = GivesAs (λ x. x) result read
 
--- the same for a function that changed a value in place to what reading gives
+-- the result of a function that changed a value in place to what reading gives
 abbrev pub GivesInto : {A B : Type 0} → A → Result B TopologyError → Result A TopologyError → Type 0
 GivesInto value result read = GivesAs (λ _. value) result read

@@ -26,7 +26,7 @@ abbrev pub item_taken : Option Item → Topology → Result Topology TopoTextCau
 item_taken None t = Err causes.Form
 item_taken (Some item) t = taken item t
 
--- the same of the line with a number
+-- the topology after the line with a number
 unfoldable pub line_taken : ℕ → List ℕ → Topology → Result Topology TopologyError
 line_taken line text t = at_line line (item_taken (item_of text) t)
 

@@ -44,24 +44,28 @@ impl Draft {
         }
     }
 
+    /// Whether no `owner` line was read: a `line` line may come.
     fn is_before_masters(&self) -> bool
         ensures { result ≡ before_masters (so_far self.now) }
     {
         self.masters.is_empty()
     }
 
+    /// Whether no `line` line, nor a later kind, was read: a `slave` or `state` line may come.
     fn is_before_lines(&self) -> bool
         ensures { result ≡ before_lines (so_far self.now) }
     {
         self.lines.is_empty() && self.is_before_masters()
     }
 
+    /// Whether no `slave` line, nor a later kind, was read: a `proc` line may come.
     fn is_before_slaves(&self) -> bool
         ensures { result ≡ before_slaves (so_far self.now) }
     {
         self.slaves.is_empty() && self.is_before_lines()
     }
 
+    /// Whether no `proc` line, nor a later kind, was read: a `power` line may come.
     fn is_before_procs(&self) -> bool
         ensures { result ≡ before_procs (so_far self.now) }
     {
@@ -92,6 +96,7 @@ impl Draft {
             .position(|power| power.node == node)
     }
 
+    /// The place of a power node that an earlier line has, or none if none is named.
     fn optional_place(&self, node: Option<NodeId>) -> Option<Option<usize>>
         ensures { result ≡ optional_place node self.now.powers }
     {
@@ -101,6 +106,7 @@ impl Draft {
         }
     }
 
+    /// The fault of the line that is read.
     fn fault(&self, cause: TopoTextCause) -> TopologyError
         ensures { result ≡ Bad (record { line = self.now.line; cause = cause }) }
     {
@@ -110,6 +116,7 @@ impl Draft {
         })
     }
 
+    /// Takes a power node. Its parent has to be an earlier one.
     fn take_power(&mut self, power: PowerLine) -> Result<(), TopologyError>
         ensures next { GivesInto (so_far self.new) result
             (at_line self.old.line (placed (Power power) (so_far self.old))) }
@@ -128,6 +135,7 @@ impl Draft {
         Ok(())
     }
 
+    /// Takes a processor. Its parent has to be a power node.
     fn take_proc(&mut self, proc: ProcLine) -> Result<(), TopologyError>
         ensures next { GivesInto (so_far self.new) result
             (at_line self.old.line (placed (Proc proc) (so_far self.old))) }
@@ -145,6 +153,7 @@ impl Draft {
         Ok(())
     }
 
+    /// Takes a slave without states, which follow. Its parent has to be a power node.
     fn take_slave(&mut self, alloc: Global, slave: SlaveLine) -> Result<(), TopologyError>
         ensures next { GivesInto (so_far self.new) result
             (at_line self.old.line (placed (Slave slave) (so_far self.old))) }
@@ -195,7 +204,7 @@ impl Draft {
         self.place(alloc, item)
     }
 
-    /// Takes a line. Where it is refused, the answer names the line's number.
+    /// Takes a line. If it is refused, the answer names the line's number.
     #[tactic(auto, unfolding(crate::specs::Meaning::line_taken))]
     pub fn read(&mut self, alloc: Global, line: &[u8]) -> Result<(), TopologyError>
         requires early { self.old.line + 1 < 2 ^ 32 }
@@ -210,7 +219,7 @@ impl Draft {
         Ok(())
     }
 
-    /// The topology, where the text ends here.
+    /// The topology, if the text ends here.
     pub fn finish(self, alloc: Global) -> Result<Topology, NoMemory>
         ensures { IfOk result (λ t. t ≡ so_far self) }
     {
@@ -226,12 +235,14 @@ impl Draft {
     }
 }
 
+/// Puts a slave at the end.
 fn push_slave(slaves: &mut Vec<SlaveDef>, slave: SlaveDef) -> Result<(), NoMemory>
     ensures { OnOk result (slaves.new.items ≡ slaves.old.items ++ slave ∷ []) }
 {
     slaves.push(slave).map_err(|_| NoMemory)
 }
 
+/// These items as a list of the topology.
 fn list_of<T: Drop>(alloc: Global, items: Vec<T>) -> Result<List<T>, NoMemory>
     ensures { IfOk result (λ list. list ≡ items.items) }
 {

@@ -45,6 +45,7 @@ pub enum TopologyError {
 impl From<NoMemory> for TopologyError {
     ghost from_gives = { λ x e. e ≡ Memory x };
 
+    /// Want of memory is handed on.
     fn from(e: NoMemory) -> TopologyError {
         TopologyError::Memory(e)
     }
@@ -53,6 +54,7 @@ impl From<NoMemory> for TopologyError {
 impl From<TopoFault> for TopologyError {
     ghost from_gives = { λ x e. e ≡ Rule x };
 
+    /// A broken rule of the whole topology is handed on.
     fn from(e: TopoFault) -> TopologyError {
         TopologyError::Rule(e)
     }

@@ -54,6 +54,7 @@ fn take_last(
     Ok(new_master(alloc, node))
 }
 
+/// A master without processors.
 fn new_master(alloc: Global, node: NodeId) -> MasterDef
     ensures { result ≡ record { node = node; procs = [] } }
 {
@@ -63,6 +64,7 @@ fn new_master(alloc: Global, node: NodeId) -> MasterDef
     }
 }
 
+/// Puts the nodes of these numbers at the end.
 fn append(list: &mut List<NodeId>, numbers: &[u32]) -> Result<(), NoMemory>
     ensures { OnOk result (list.new ≡ list.old ++ map (λ n. record { 0 = n }) numbers.now) }
 {

@@ -53,8 +53,8 @@ fn read_text(alloc: Global, text: &[u8]) -> Result<Topology, TopologyError>
 ///
 /// # Errors
 ///
-/// `Bad` with line 0 and cause `Size` comes exactly where the text has more than 1,048,576 bytes, else `Bad` with the
-/// first line that is wrong and the first of its causes, exactly where a line is wrong. `Rule` comes exactly where
+/// `Bad` with line 0 and cause `Size` comes exactly if the text has more than 1,048,576 bytes, else `Bad` with the
+/// first line that is wrong and the first of its causes, exactly if a line is wrong. `Rule` comes exactly if
 /// each line is right and the topology breaks a rule, with the first fault of its check. The other error is want of
 /// memory.
 pub fn read_topology(alloc: Global, text: &[u8]) -> Result<Topology, TopologyError>

@@ -17,6 +17,7 @@ use std::alloc::Global;
 /// The most processors of one line.
 const MOST_MEMBERS: usize = 16;
 
+/// Puts bytes at the end of the text. All functions here can want memory, and put lines at the end.
 fn put(text: &mut Vec<u8>, bytes: &[u8]) -> Result<(), NoMemory>
     ensures { OnOk result (text.new.items ≡ text.old.items ++ bytes.now) }
 {
@@ -36,6 +37,7 @@ fn put_word(text: &mut Vec<u8>, word: Option<u32>) -> Result<(), NoMemory>
     put(text, buffer.format(number).as_bytes())
 }
 
+/// Puts words, each behind a space: numbers, or `none`.
 fn put_words(text: &mut Vec<u8>, words: &[Option<u32>]) -> Result<(), NoMemory>
     ensures text { OnOk result (text.new.items ≡ text.old.items ++ flat_map word_text words.now) }
     ensures small { OnOk result (AreSmall words.now) }
@@ -46,6 +48,7 @@ fn put_words(text: &mut Vec<u8>, words: &[Option<u32>]) -> Result<(), NoMemory>
     Ok(())
 }
 
+/// Puts a line: a keyword and words.
 fn put_line(text: &mut Vec<u8>, keyword: Keyword, words: &[Option<u32>]) -> Result<(), NoMemory>
     ensures text { OnOk result (text.new.items ≡ text.old.items ++ line_text keyword words.now) }
     ensures small { OnOk result (AreSmall words.now) }
@@ -55,6 +58,7 @@ fn put_line(text: &mut Vec<u8>, keyword: Keyword, words: &[Option<u32>]) -> Resu
     put(text, b"\n")
 }
 
+/// The word of a flag: 1 if it is set, else 0.
 fn flag(set: bool) -> Option<u32>
     ensures { result ≡ flag set }
 {
@@ -68,12 +72,14 @@ fn power_at(powers: &[PowerDef], place: usize) -> Option<u32>
     Some(powers.get(place)?.node.0)
 }
 
+/// The number of a parent by its place, if there is one.
 fn parent_at(powers: &[PowerDef], place: Option<usize>) -> Option<u32>
     ensures { result ≡ option_and_then (power_at powers.now) place }
 {
     power_at(powers, place?)
 }
 
+/// Puts a line for each power node.
 fn put_powers(text: &mut Vec<u8>, powers: &[PowerDef]) -> Result<(), NoMemory>
     ensures text { OnOk result (text.new.items ≡ text.old.items ++ flat_map (power_text powers.now) powers.now) }
     ensures small { OnOk result (AllByRecursion (λ p. AreSmall (power_words powers.now p)) powers.now) }
@@ -94,6 +100,7 @@ fn put_powers(text: &mut Vec<u8>, powers: &[PowerDef]) -> Result<(), NoMemory>
     Ok(())
 }
 
+/// Puts a line for each processor.
 fn put_procs(text: &mut Vec<u8>, powers: &[PowerDef], procs: &[ProcDef]) -> Result<(), NoMemory>
     ensures text { OnOk result (text.new.items ≡ text.old.items ++ flat_map (proc_text powers.now) procs.now) }
     ensures small { OnOk result (AllByRecursion (λ p. AreSmall (proc_words powers.now p)) procs.now) }
@@ -113,6 +120,7 @@ fn put_procs(text: &mut Vec<u8>, powers: &[PowerDef], procs: &[ProcDef]) -> Resu
     Ok(())
 }
 
+/// Puts a line for each state of a slave.
 fn put_states(text: &mut Vec<u8>, states: &[SlaveState]) -> Result<(), NoMemory>
     ensures text { OnOk result (text.new.items ≡ text.old.items ++ flat_map state_text states.now) }
     ensures small { OnOk result (AllByRecursion (λ s. AreSmall (state_words s)) states.now) }
@@ -145,6 +153,7 @@ fn put_slave(text: &mut Vec<u8>, powers: &[PowerDef], slave: &SlaveDef) -> Resul
     put_states(text, slave.states.as_slice())
 }
 
+/// Puts the lines of each slave: its own, then those of its states.
 fn put_slaves(text: &mut Vec<u8>, powers: &[PowerDef], slaves: &[SlaveDef]) -> Result<(), NoMemory>
     ensures text { OnOk result (text.new.items ≡ text.old.items ++ flat_map (slave_text powers.now) slaves.now) }
     ensures small { OnOk result (AllByRecursion (IsSmallSlave powers.now) slaves.now) }
@@ -155,12 +164,14 @@ fn put_slaves(text: &mut Vec<u8>, powers: &[PowerDef], slaves: &[SlaveDef]) -> R
     Ok(())
 }
 
+/// The word of a reset line's target: its number, or `none`.
 fn number_of_target(target: Option<NodeId>) -> Option<u32>
     ensures { result ≡ option_map (λ n. n.0) target }
 {
     Some(target?.0)
 }
 
+/// Puts a line for each reset line.
 fn put_resets(text: &mut Vec<u8>, lines: &[LineDef]) -> Result<(), NoMemory>
     ensures text { OnOk result (text.new.items ≡ text.old.items ++ flat_map reset_text lines.now) }
     ensures small { OnOk result (AllByRecursion (λ l. AreSmall (reset_words l)) lines.now) }
@@ -175,6 +186,7 @@ fn put_resets(text: &mut Vec<u8>, lines: &[LineDef]) -> Result<(), NoMemory>
     Ok(())
 }
 
+/// Puts the numbers of processors, each behind a space.
 fn put_members(text: &mut Vec<u8>, procs: &[NodeId]) -> Result<(), NoMemory>
     ensures text { OnOk result (text.new.items ≡ text.old.items ++ flat_map word_text (map number_of procs.now)) }
     ensures small { OnOk result (AreSmall (map number_of procs.now)) }
@@ -185,6 +197,7 @@ fn put_members(text: &mut Vec<u8>, procs: &[NodeId]) -> Result<(), NoMemory>
     Ok(())
 }
 
+/// Puts one `owner` line: a master and processors of it.
 fn put_owner_line(text: &mut Vec<u8>, node: NodeId, procs: &[NodeId]) -> Result<(), NoMemory>
     ensures text { OnOk result (text.new.items ≡ text.old.items ++ owner_line node procs.now) }
     ensures small { OnOk result (AreSmall (owner_words node procs.now)) }
@@ -195,6 +208,7 @@ fn put_owner_line(text: &mut Vec<u8>, node: NodeId, procs: &[NodeId]) -> Result<
     put(text, b"\n")
 }
 
+/// Puts the `owner` lines of a master, each with at most 16 processors.
 fn put_owner(text: &mut Vec<u8>, master: &MasterDef) -> Result<(), NoMemory>
     ensures text { OnOk result (text.new.items ≡ text.old.items ++ owner_text master.now) }
     ensures small { OnOk result (AreSmall (owner_words master.now.node master.now.procs)) }
@@ -207,6 +221,7 @@ fn put_owner(text: &mut Vec<u8>, master: &MasterDef) -> Result<(), NoMemory>
     put_owner_line(text, master.node, left)
 }
 
+/// Puts the `owner` lines of all masters.
 fn put_owners(text: &mut Vec<u8>, masters: &[MasterDef]) -> Result<(), NoMemory>
     ensures text { OnOk result (text.new.items ≡ text.old.items ++ flat_map owner_text masters.now) }
     ensures small { OnOk result (AllByRecursion (λ m. AreSmall (owner_words m.node m.procs)) masters.now) }

@@ -23,18 +23,21 @@ fn number_in(word: &[u8], most: u32) -> Option<u32>
     number(word, u64::from(most)).map(|n| n as u32)
 }
 
+/// The number that is the `k`-th word of a line, if it is one of at most `most`.
 fn number_at(line: &[u8], k: usize, most: u32) -> Option<u32>
     ensures { result ≡ number_at most (word_texts line.now) k }
 {
     number_in(word_text(line, k)?, most)
 }
 
+/// The node that a word is the number of, if it is a number.
 fn node_in(word: &[u8]) -> Option<NodeId>
     ensures { result ≡ node_in word.now }
 {
     Some(NodeId(number_in(word, GREATEST)?))
 }
 
+/// The node that is the `k`-th word of a line, if it is a number.
 fn node_at(line: &[u8], k: usize) -> Option<NodeId>
     ensures { result ≡ node_at (word_texts line.now) k }
 {
@@ -51,12 +54,14 @@ fn optional_in(word: &[u8]) -> Option<Option<NodeId>>
     Some(Some(node_in(word)?))
 }
 
+/// The node that is the `k`-th word of a line, or none if it is `none`.
 fn optional_at(line: &[u8], k: usize) -> Option<Option<NodeId>>
     ensures { result ≡ optional_at (word_texts line.now) k }
 {
     optional_in(word_text(line, k)?)
 }
 
+/// The flag that is the `k`-th word of a line, if it is 0 or 1.
 fn flag_at(line: &[u8], k: usize) -> Option<bool>
     ensures { result ≡ flag_at (word_texts line.now) k }
 {
@@ -77,6 +82,7 @@ fn members_after(line: &[u8]) -> Option<Members>
     Some(members)
 }
 
+/// The power node of a line: node, parent or `none`, whether it is held, figure, latency.
 fn power_of(line: &[u8]) -> Option<Item>
     ensures { let words = word_texts line.now in
         result ≡ power_with (node_at words 1) (optional_at words 2) (flag_at words 3)
@@ -91,6 +97,7 @@ fn power_of(line: &[u8]) -> Option<Item>
     }))
 }
 
+/// The processor of a line: node, parent, figure, latency.
 fn proc_of(line: &[u8]) -> Option<Item>
     ensures { let words = word_texts line.now in
         result ≡ proc_with (node_at words 1) (node_at words 2) (number_at greatest words 3)
@@ -104,6 +111,7 @@ fn proc_of(line: &[u8]) -> Option<Item>
     }))
 }
 
+/// The slave of a line: node, parent.
 fn slave_of(line: &[u8]) -> Option<Item>
     ensures { let words = word_texts line.now in result ≡ slave_with (node_at words 1) (node_at words 2) }
 {
@@ -113,6 +121,7 @@ fn slave_of(line: &[u8]) -> Option<Item>
     }))
 }
 
+/// The state of a line: capabilities, latency, whether it needs power, figure.
 fn state_of(line: &[u8]) -> Option<Item>
     ensures { let words = word_texts line.now in
         result ≡ state_with (number_at greatest_caps words 1) (number_at greatest words 2) (flag_at words 3)
@@ -126,6 +135,7 @@ fn state_of(line: &[u8]) -> Option<Item>
     }))
 }
 
+/// The reset line of a line: its number, the target or `none`.
 fn line_of(line: &[u8]) -> Option<Item>
     ensures { let words = word_texts line.now in result ≡ line_with (number_at greatest words 1) (optional_at words 2) }
 {
@@ -135,6 +145,7 @@ fn line_of(line: &[u8]) -> Option<Item>
     }))
 }
 
+/// The master of a line with its processors.
 fn owner_of(line: &[u8]) -> Option<Item>
     requires { length (word_texts line.now) ≤ 18 }
     ensures { let words = word_texts line.now in result ≡ owner_with (node_at words 1) (numbers_in greatest (drop 2 words)) }
@@ -142,6 +153,7 @@ fn owner_of(line: &[u8]) -> Option<Item>
     Some(Item::Owner(node_at(line, 1)?, members_after(line)?))
 }
 
+/// What a line with this keyword says, if each of its words is in its list.
 fn form_item(keyword: Keyword, line: &[u8]) -> Option<Item>
     requires { length (word_texts line.now) ≤ 18 }
     ensures { result ≡ form_item keyword (word_texts line.now) }
@@ -156,6 +168,7 @@ fn form_item(keyword: Keyword, line: &[u8]) -> Option<Item>
     }
 }
 
+/// The keyword that a word is, if it is one.
 fn keyword_of(word: &[u8]) -> Option<Keyword>
     ensures { result ≡ keyword_of word.now }
 {
@@ -173,6 +186,7 @@ fn has_count(keyword: Keyword, line: &[u8]) -> bool
         && word_text(line, most_words(keyword)).is_none()
 }
 
+/// What a line with this keyword says, if it has the right number of words too.
 fn keyword_item(keyword: Keyword, line: &[u8]) -> Option<Item>
     ensures { result ≡ keyword_item keyword (word_texts line.now) }
 {
@@ -183,7 +197,7 @@ fn keyword_item(keyword: Keyword, line: &[u8]) -> Option<Item>
     }
 }
 
-/// What a line says; `None` where it is too long, isn't ASCII, or has an unknown word, a wrong count, a bad number
+/// What a line says; `None` if it is too long, isn't ASCII, or has an unknown word, a wrong count, a bad number
 /// or one that is too great.
 #[tactic(auto, unfolding(crate::specs::Reading::item_of))]
 pub fn item_of(line: &[u8]) -> Option<Item>
