@@ -5,3 +5,4 @@ pub mod LeavesLemmas
 pub mod LinesLemmas
 pub mod ReplayLemmas
 pub mod RestLemmas
+pub mod GivenLemmas

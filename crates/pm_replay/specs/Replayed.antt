@@ -1,10 +1,14 @@
 -- What a replay of a named script did, on every exit, and what Done means.
 use Rattle.std.specs.Prelude.{◌≡◌, ℕ, Bool, List, ◌++◌, Option}
 use Rattle.pm_base.specs.declared.errors.Exit.{Exit}
+use Rattle.pm_base.specs.declared.errors.Exit.TheVariants.{Done, ReadFault}
 use Rattle.pm_base.specs.declared.events.Event.{Event}
 use Rattle.pm_io.specs.declared.inputs.Inputs as Inputs
 use Rattle.pm_io.specs.declared.sink.Sink as Sink
-use Rattle.pm_io.specs.Inputs.{Holds}
+use Rattle.pm_io.specs.Calls.{Call}
+use Rattle.pm_io.specs.declared.prefix.StopReason.TheVariants.{End}
+use Rattle.pm_io.specs.Given.{prefix_called}
+use Rattle.pm_io.specs.Inputs.{Holds, MayFail, Moment}
 use Rattle.pm_io.specs.World.{World}
 use Rattle.pm_device.specs.declared.device.Device as Device
 use Rattle.pm_board.specs.Board.{Standing}
@@ -12,12 +16,15 @@ use Rattle.pm_object.specs.declared.attached.Attached.{Attached}
 use Rattle.pm_object.specs.declared.object.Object.{Object}
 use Rattle.pm_block.specs.Block.{passed}
 use Rattle.pm_topology.specs.declared.topology.Topology.{Topology}
+use Rattle.pm_reader.specs.Shown.{giving, shown}
 use Rattle.pm_run.specs.Run.{cores_in, loaded, run, setup, setup_for}
 use Rattle.pm_run.specs.Served.{EachServes}
 use Rattle.pm_causes.specs.Caused.{HaveCauses}
-use Rattle.pm_script.specs.Named.{IsScript}
+use Rattle.pm_script.specs.Named.{IsScript, script_in}
+use Rattle.pm_script.specs.Script.{script_limit}
+use Rattle.pm_trace.specs.Exits.{EndsWith}
 use Rattle.pm_trace.specs.Report.{Did}
-use Rattle.pm_trace.specs.Scripts.{IsScriptOf}
+use Rattle.pm_trace.specs.Scripts.{IsScriptOf, ReadsScript, script_exit, script_named, script_or_fault}
 use Rattle.pm_drive.specs.Drive.{driven, until}
 use Rattle.pm_drive.specs.Drove.{Drove}
 use Rattle.pm_drive.specs.Lowered.{HaveSameSteps, lowered_script}
@@ -48,6 +55,18 @@ module _ {I O D : Type 0} (i : Inputs.Ghosts I) (o : Sink.Ghosts O) (d : Device.
     pub text : (o.state w'.sink).bytes ≡ (o.state w.sink).bytes ++ script_text object t board answers events
     pub drove : Drove d (setup_for object t events) (script_driven object t answers events) w.device w'.device
     pub tasks_left : is ≡ last_board board (script_driven object t answers events)
+
+module _ {O D : Type 0} (o : Sink.Ghosts O) (d : Device.Ghosts D) where
+  -- these calls were made to read the script, and what was asked for is what they gave, of whichever source: on Done a script that they
+  -- gave whole was run, and by what they gave the exit is decided
+  pub record ReplayedGiven (object : Object) (t : Topology) (board is : Standing) (name : List ℕ) (calls : List Call)
+      (w w' : World Moment O D) (exit : Exit) : Type 0 where
+    pub reads : ReadsScript exit (script_named name) calls
+    pub whole : exit ≡ Done → (prefix_called script_limit calls).stop ≡ End
+    pub ran : Replayed shown o d object t board is name (record w { inputs = giving script_limit calls w.inputs }) w' exit
+    pub done : o.observable → exit ≡ Done → IsRun shown o d object t board is name (record w { inputs = giving script_limit calls w.inputs }) w'
+    pub decided : EndsWith o (script_exit (script_or_fault (script_in (giving script_limit calls w.inputs) name))) w.sink w'.sink exit
+    pub read_cause : exit ≡ ReadFault → MayFail name script_limit (giving script_limit calls w.inputs)
 
 module _ {D : Type 0} (d : Device.Ghosts D) where
   -- whichever run the device was driven through: nothing that a master sends changes what is beyond its reach, in the whole run

@@ -5,8 +5,9 @@ ghost use Rattle.pm_base.specs.Faults.{Rose};
 ghost use Rattle.pm_io.specs.declared.prefix.StopReason.TheVariants.{Failure, Unbegun};
 ghost use Rattle.pm_io.specs.Readings.{Meanwhile};
 ghost use Rattle.pm_block.specs.Block.{attached_by};
-ghost use Rattle.pm_reader.specs.Follow.{OfScript, ReadsLines};
+ghost use Rattle.pm_reader.specs.Follow.{ReadsLines};
 ghost use Rattle.pm_reader.specs.Front.{Ahead, Attaches, WasReadAhead, ran};
+ghost use Rattle.pm_reader.specs.Shown.{OfRead};
 ghost use Rattle.pm_run.specs.Run.{Setup, setup_of};
 ghost use Rattle.pm_modules.specs.Modules.{ranges};
 ghost use Rattle.pm_board.specs.Standing.{standing};
@@ -80,7 +81,7 @@ pub(crate) fn run_lines<I: Inputs, O: Sink, D: Device, H: Responder, T: Handler>
     requires front { WasReadAhead I.observable id (I.state inputs.old) front.old }
     ensures ran { (ahead : Ahead) → Attaches I.observable id ahead (I.state inputs.old) front.old
         → (c : Setup) → setup_of engine.old.book ≡ c → AreTold engine.old.clocks
-        → OfScript I.observable id ahead.first
+        → OfRead I.observable id ahead.first (I.state inputs.new)
         (λ s. (attached_by s.events ≡ ahead.attached)
         × RanLines O.Sink D.Device c 1 (ran s) engine.old engine.new out.old out.new dev.old dev.new
         (standing H.Responder T.Handler board.old.modules.now board.old.tasks)

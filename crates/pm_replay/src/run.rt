@@ -9,8 +9,9 @@ ghost use Rattle.pm_io.specs.declared.prefix.StopReason.TheVariants.{Unbegun};
 ghost use Rattle.pm_script.specs.Named.{script_in};
 ghost use Rattle.pm_script.specs.Script.{script_limit, stop_of};
 ghost use Rattle.pm_io.specs.Readings.{Meanwhile};
-ghost use Rattle.pm_reader.specs.Follow.{IsBrokenOff, OfScript};
+ghost use Rattle.pm_reader.specs.Follow.{IsBrokenOff};
 ghost use Rattle.pm_reader.specs.Front.{Ahead, Attaches, WasReadAhead, ahead_of, ran};
+ghost use Rattle.pm_reader.specs.Shown.{OfRead};
 ghost use Rattle.pm_topology.specs.WellFormed.{IsWellFormed};
 ghost use Rattle.pm_block.specs.Block.{attached_by};
 ghost use Rattle.pm_object.specs.Grammar.{IsObject};
@@ -20,7 +21,7 @@ ghost use Rattle.pm_trace.specs.Exits.{EndsWith, IsStarved};
 ghost use Rattle.pm_trace.specs.declared.faults.Fault.TheVariants.{Memory};
 ghost use Rattle.pm_trace.specs.Report.{Reports, refusal};
 ghost use Rattle.pm_trace.specs.Scripts.{ReadsBegun, ReadsScript, script_exit, script_named, script_or_fault};
-ghost use Rattle.pm_replay.specs.Replayed.{AnswersHaveCauses, ClocksFollow, IsRun, LinesServe, LowersCalls, Replayed, RunsKeepApart, TellsCalls};
+ghost use Rattle.pm_replay.specs.Replayed.{AnswersHaveCauses, ClocksFollow, IsRun, LinesServe, LowersCalls, Replayed, ReplayedGiven, RunsKeepApart, TellsCalls};
 ghost use Rattle.pm_run.specs.Run.{Setup, setup, setup_for, setup_of};
 ghost use Rattle.pm_replay.specs.Safe.{IsSafe};
 ghost use Rattle.pm_io.specs.World.{world};
@@ -84,6 +85,12 @@ pub fn replay<I: Inputs, O: Sink, D: Device, H: Responder, T: Handler>(
     ensures decided { I.observable
         → EndsWith O.Sink (script_exit
         (script_or_fault (script_in (I.state inputs.old) script.now))) out.old out.new result }
+    // And of any input so of what the reads of the script gave: on Done they gave a script whole, which was run, and
+    // what they gave decides the exit.
+    ensures given { Meanwhile (I.state inputs.old) (I.state inputs.new) (λ calls. ReplayedGiven O.Sink D.Device object topology
+        (standing H.Responder T.Handler modules.now tasks.old)
+        (standing H.Responder T.Handler modules.now tasks.new) script.now calls
+        (world (I.state inputs.old) out.old dev.old) (world (I.state inputs.new) out.new dev.new) result) }
     // On every exit: nothing was used without power, and no domain went down under its users.
     ensures safe { IsSafe D.Device topology dev.old dev.new }
     // On every exit: what was asked for, what was written of it, what was done to the device, and how the tasks are
@@ -165,6 +172,10 @@ fn run_named<I: Inputs, O: Sink, D: Device, H: Responder, T: Handler>(
         (standing H.Responder T.Handler board.old.modules.now board.old.tasks)
         (standing H.Responder T.Handler board.old.modules.now board.new.tasks) script.now
         (world inputs.old out.old dev.old) (world inputs.new out.new dev.new) result }
+    ensures given { Meanwhile (I.state inputs.old) (I.state inputs.new) (λ calls. ReplayedGiven O.Sink D.Device object topology
+        (standing H.Responder T.Handler board.old.modules.now board.old.tasks)
+        (standing H.Responder T.Handler board.old.modules.now board.new.tasks) script.now calls
+        (world (I.state inputs.old) out.old dev.old) (world (I.state inputs.new) out.new dev.new) result) }
     ensures begun { Meanwhile (I.state inputs.old) (I.state inputs.new) (ReadsScript result (script_named script.now)) }
 {
     driven_follows::<D>();
@@ -240,7 +251,7 @@ fn run_begun<I: Inputs, O: Sink, D: Device, H: Responder, T: Handler>(
     requires formed { IsWellFormed topology }
     ensures ran { (Reports O.Sink (refusal Memory) out.old out.new result × (dev.old ≡ dev.new)
         × (board.old.tasks ≡ board.new.tasks))
-        ⊎ OfScript I.observable id (I.state inputs.old)
+        ⊎ OfRead I.observable id (I.state inputs.old) (I.state inputs.new)
         (λ s. RanScript O.Sink D.Device (setup_for object topology s.events) (ran s) out.old out.new dev.old dev.new
         (standing H.Responder T.Handler board.old.modules.now board.old.tasks)
         (standing H.Responder T.Handler board.old.modules.now board.new.tasks) result) }
@@ -279,7 +290,7 @@ fn run<I: Inputs, O: Sink, D: Device, H: Responder, T: Handler>(
     requires front { WasReadAhead I.observable id (I.state inputs.old) front.old }
     requires loaded { IsLoaded engine.old }
     ensures ran { (ahead : Ahead) → Attaches I.observable id ahead (I.state inputs.old) front.old
-        → OfScript I.observable id ahead.first
+        → OfRead I.observable id ahead.first (I.state inputs.new)
         (λ s. (attached_by s.events ≡ ahead.attached)
         × RanScript O.Sink D.Device (setup_of engine.old.book) (ran s) out.old out.new dev.old dev.new
         (standing H.Responder T.Handler board.old.modules.now board.old.tasks)
@@ -312,7 +323,7 @@ fn run_rest<I: Inputs, O: Sink, D: Device, H: Responder, T: Handler>(
     requires front { WasReadAhead I.observable id (I.state inputs.old) front.old }
     ensures ran { (ahead : Ahead) → Attaches I.observable id ahead (I.state inputs.old) front.old
         → (c : Setup) → setup_of engine.old.book ≡ c → AreTold engine.old.clocks
-        → OfScript I.observable id ahead.first
+        → OfRead I.observable id ahead.first (I.state inputs.new)
         (λ s. (attached_by s.events ≡ ahead.attached)
         × RanRest O.Sink D.Device c 1 (ran s) engine.old out.old out.new dev.old dev.new
         (standing H.Responder T.Handler board.old.modules.now board.old.tasks)

@@ -1,7 +1,7 @@
 use Rattle.std.proofs.Common.{List, subst}
 use Rattle.pm_tasks.specs.declared.tasks.TasksOf.{TasksOf}
 use Rattle.pm_replay.specs.Replay.{Touched, replay_report}
-use Rattle.pm_replay.specs.Replayed.{Replayed}
+use Rattle.pm_replay.specs.Replayed.{Replayed, ReplayedGiven}
 use Rattle.pm_board.specs.Standing.{standing}
 use Rattle.pm_base.specs.declared.events.Event.{Event}
 use Rattle.pm_block.specs.Block.{passed}
@@ -10,6 +10,7 @@ use Rattle.pm_run.proofs.FormedLemmas.{objects_formed}
 use Rattle.pm_io.specs.World.{world}
 use Rattle.pm_trace.specs.Scripts.{IsScriptOf}
 use Rattle.pm_trace.proofs.ScriptsLemmas as scripts
+use Rattle.pm_io.specs.Readings.{Meanwhile}
 use Rattle.pm_replay.proofs.ReplayLemmas.{of_script, replay_done, replay_safe, replay_untouched, script_itself}
 use Rattle.pm_replay.proofs.run.replay.Goals as goal
 
@@ -30,6 +31,7 @@ returns g c =
     record {
       done = replay_done g.I.Inputs g.O.Sink g.D.Device object t board left name w w' result ran;
       decided = scripts.did_decided g.I.Inputs g.O.Sink script_itself (replay_report object t board) (of_script object t board) name w.inputs w'.inputs w.sink w'.sink result Asks (λ job asked. asked) Touching ran;
+      given = subst (λ (tasks : TasksOf _). Meanwhile (g.I.Inputs.state w.inputs) (g.I.Inputs.state w'.inputs) (λ calls. ReplayedGiven g.O.Sink g.D.Device object t (standing g.H.Responder g.T.Handler c.args.modules.now tasks) left name calls (world (g.I.Inputs.state w.inputs) w.sink w.device) (world (g.I.Inputs.state w'.inputs) w'.sink w'.device) result)) c.replace.ensures.value c.run_named-exit.ensures.given;
       safe = replay_safe g.I.Inputs g.O.Sink g.D.Device object t board left name w w' result ran;
       ran = ran;
       keeps = record { run = λ answers events drove. c.driven_runs_keep_apart.ensures.run (setup_for object t events) (passed events) answers w.device w'.device (formed events) c.requires.formed drove; steps = λ answers events cut drove. c.driven_runs_keep_apart.ensures.steps (setup_for object t events) (passed events) answers cut w.device w'.device (formed events) c.requires.formed drove };

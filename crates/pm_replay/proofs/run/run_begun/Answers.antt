@@ -2,7 +2,7 @@ use Rattle.std.proofs.Common.{List, ap, inl, inr, refl, subst, sym, ◌∙◌}
 use Rattle.pm_board.specs.Standing.{standing}
 use Rattle.pm_object.specs.declared.attached.Attached.{Attached}
 use Rattle.pm_reader.specs.Front.{ran}
-use Rattle.pm_reader.proofs.Named.{of_more}
+use Rattle.pm_reader.proofs.ShownLemmas.{read_more}
 use Rattle.pm_run.specs.Run.{Setup, setup}
 use Rattle.pm_script.specs.Script.{Script}
 use Rattle.pm_trace.proofs.ReadsLemmas.{reads_starved}
@@ -26,7 +26,7 @@ returns-in-Ok-clause-ran g c =
     let board = standing g.H.Responder g.T.Handler c.args.board.now.modules.now c.args.board.now.tasks in
     let left = standing g.H.Responder g.T.Handler c.args.board.now.modules.now c.run-exit.new.board.tasks in
     let R : Script → Setup → Type 0 = λ s cs. RanScript g.O.Sink g.D.Device cs (ran s) c.args.out.now c.run-exit.new.out c.args.dev.now c.run-exit.new.dev board left c.run-exit.result in
-    inr (of_more g.I.Inputs.observable c.args.id _ _ _
+    inr (read_more g.I.Inputs.observable c.args.id _ _ _ _
     (λ s did. subst (λ (cs : Setup). R s cs) (c.in-Ok.ensures.setup ∙ ap (λ (attached : List Attached). setup c.args.object attached c.args.topology) (sym did.0)) did.1)
     (c.run-exit.ensures.ran _ c.in-Ok.ensures.front))
 

@@ -1,7 +1,7 @@
 use Rattle.std.proofs.Common.{refl}
 use Rattle.pm_board.specs.Standing.{standing}
 use Rattle.pm_reader.specs.Front.{ran}
-use Rattle.pm_reader.proofs.Named.{of_more}
+use Rattle.pm_reader.proofs.ShownLemmas.{read_more}
 use Rattle.pm_script.specs.Script.{stop_of}
 use Rattle.pm_trace.proofs.ScriptsLemmas.{failure_by, line_is_read, read_by}
 use Rattle.pm_trace.specs.Report.{refusal}
@@ -17,7 +17,7 @@ returns-in-Ok-clause-ran g c = λ ahead front cs is told.
     let then = c.run_lines.new.engine in
     let board = standing g.H.Responder g.T.Handler c.args.board.now.modules.now c.args.board.now.tasks in
     let left = standing g.H.Responder g.T.Handler c.args.board.now.modules.now c.run_lines.new.board.tasks in
-    of_more g.I.Inputs.observable c.args.id _ _ _
+    read_more g.I.Inputs.observable c.args.id _ _ _ _
     (λ s did. (did.0, RanRest-closed g.O.Sink g.D.Device cs 1 (ran s) c.in-Ok.end.stop c.args.engine.now then c.args.out.now c.run_lines.new.out c.finish.new.out c.args.dev.now c.run_lines.new.dev board left c.finish.result c.in-Ok.end.count did.1 c.finish.ensures))
     (c.in-Ok.ensures.ran ahead front cs is told)
 
@@ -31,7 +31,7 @@ pub returns-in-Err-Bad-clause-ran : goal.returns-in-Err-Bad-clause-ran
 returns-in-Err-Bad-clause-ran g c = λ ahead front cs is told.
     let board = standing g.H.Responder g.T.Handler c.args.board.now.modules.now c.args.board.now.tasks in
     let left = standing g.H.Responder g.T.Handler c.args.board.now.modules.now c.run_lines.new.board.tasks in
-    of_more g.I.Inputs.observable c.args.id _ _ _
+    read_more g.I.Inputs.observable c.args.id _ _ _ _
     (λ s did. (did.0, RanRest-bad g.O.Sink g.D.Device cs 1 c.in-Err-Bad.number c.in-Err-Bad.cause (ran s) c.args.engine.now c.run_lines.new.engine c.args.out.now c.run_lines.new.out c.refuse.new.out c.args.dev.now c.run_lines.new.dev board left c.refuse.result did.1 c.refuse.ensures))
     ((rw c.in-Err-Bad.field-0-is at c.in-Err-Bad.ensures.ran) ahead front cs is told)
 
@@ -44,7 +44,7 @@ pub returns-in-Err-Broken-clause-ran : goal.returns-in-Err-Broken-clause-ran
 returns-in-Err-Broken-clause-ran g c = λ ahead front cs is told.
     let board = standing g.H.Responder g.T.Handler c.args.board.now.modules.now c.args.board.now.tasks in
     let left = standing g.H.Responder g.T.Handler c.args.board.now.modules.now c.run_lines.new.board.tasks in
-    of_more g.I.Inputs.observable c.args.id _ _ _
+    read_more g.I.Inputs.observable c.args.id _ _ _ _
     (λ s did. (did.0, RanRest-broken g.O.Sink g.D.Device cs 1 (ran s) c.args.engine.now c.run_lines.new.engine c.args.out.now c.run_lines.new.out c.args.dev.now c.run_lines.new.dev board left did.1))
     ((rw c.in-Err-Broken.field-0-is at c.in-Err-Broken.ensures.ran) ahead front cs is told)
 
