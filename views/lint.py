@@ -2,8 +2,8 @@
 
 OBJ is an object, its text, or the C file of the vendor's tools. A line has the file, the place, the record or the line of
 the script, what is said of it, and the name of the check: `FILE:LINE: TEXT: MESSAGE [CHECK]`, or in an object
-`FILE: TEXT (word N): MESSAGE [CHECK]`. The checks come in one order, and the records of each as they stand in the object;
-behind them the lines of the script.
+`FILE: TEXT (word N): MESSAGE [CHECK]`. They come by place: the records as they stand in the object, and behind them the lines
+of the script. What is said of one record comes in the order of the checks.
 """
 
 import tempfile
@@ -221,14 +221,15 @@ def leads_to_all(board: Board) -> Said:
 
 
 class Check(NamedTuple):
+    """A check of an object."""
+
     look: Callable[[Board], Said]
     level: str
     about: str
 
 
-# The checks of an object in their order. Those that tell most come last, since generated objects have many lines of the
-# first. A warning is of a record that doesn't do what it says. A note is harmless in itself: what each generated object
-# has, and what gives much away, which is for a policy to judge.
+# The checks of an object in their order. A warning is of a record that doesn't do what it says. A note is harmless in itself:
+# what each generated object has, and what gives much away, which is for a policy to judge.
 CHECKS = {
     "not-in-table": Check(not_in_table, WARNING, "A record of what the chip lacks or has as another kind"),
     "no-unit": Check(no_unit, NOTE, "A reset line of what is no unit of the chip"),
@@ -262,10 +263,10 @@ class BadLine(program.BadUse):
 
 
 def of_object(board: Board, source: sources.Source) -> Iterator[Finding]:
-    """What is said of the records of an object."""
-    for name_of_check, check in CHECKS.items():
-        for record, message in sorted(check.look(board), key=lambda said: said[0].offset):
-            yield Finding(name_of_check, check.level, source.place(record), str(record), message)
+    """What is said of the records of an object, as they stand in it."""
+    said = [(check, *each) for check in CHECKS for each in CHECKS[check].look(board)]
+    for check, record, message in sorted(said, key=lambda each: each[1].offset):
+        yield Finding(check, CHECKS[check].level, source.place(record), str(record), message)
 
 
 def script_in_numbers(path: str) -> tuple[list[str], list[str]]:
@@ -285,6 +286,8 @@ def of_script(board: Board, path: str) -> Iterator[Finding]:
 
 
 class Options(NamedTuple):
+    """What the words of the view ask for."""
+
     is_strict: bool
     form: str  # --json, --sarif, or nothing
     ignored: set[str]

@@ -200,13 +200,35 @@ class Lint(Case):
         found = self.split(path, self.text("lint", path, os.path.join(TOPOLOGIES, "zynqmp.topology")))
         lines = [record.split()[1] for _, record, _, check in found if check == "not-in-table"]
         self.assertEqual(lines, [str(line) for line in range(1000, 1120)])
-        others = ["only-preset"] * 7 + ["forces-a-master"] * 2 + ["leads-to-all"] * 4
-        self.assertEqual([check for *_, check in found[120:]], others)
+        first, last = ["leads-to-all"] * 3 + ["only-preset"] * 7 + ["forces-a-master"] * 2, ["leads-to-all"]
+        self.assertEqual([check for *_, check in found], first + ["not-in-table"] * 120 + last)
         # (over the published lines, those of the PL have no unit)
         found = self.split(path, self.text("lint", path))
         lines = [record.split()[1] for _, record, _, check in found if check == "no-unit"]
         self.assertEqual(lines, [str(line) for line in [*range(1081, 1113), *range(1116, 1120)]])
-        self.assertEqual([check for *_, check in found[36:]], ["only-preset"] * 7 + ["several-units"] * 6 + others[7:])
+        several = ["RESET_GT", "RESET_SOFT", "RESET_RPU_AMBA", "RESET_FPD", "RESET_RPU_LS", "RESET_PS_ONLY"]
+        self.assertEqual([check for *_, check in found if check != "no-unit"], first + ["several-units"] * len(several) + last)
+
+    def test_what_is_said_comes_by_place(self):
+        # (a record of which two checks speak, between records of one check)
+        head = ["header", "section masters", "master 1 1 100 0 0", "master 7 2 100 0 0x10"]
+        lines = ["section slaves", "slave 33 3 1", "slave 70 3 8", "slave 35 0 0", "section power", "power 6 5", "power 78 2"]
+        wanted = ["no-master", "no-flag", "not-in-table", "no-master", "no-flag", "no-user", "no-master", "forces-a-master", "not-in-table"]
+        text, script = self.file("made.txt", "\n".join(head + lines) + "\n"), self.file("script", "wfi 99\nipi 9 1\n")
+        found = json.loads(self.text("lint", "--json", text, script))
+        self.assertEqual([each["line"] for each in found], [4, 6, 7, 7, 7, 8, 10, 10, 11, 1, 2])
+        self.assertEqual([each["check"] for each in found], [*wanted, "no-effect", "not-heard"])
+        for path in (text, self.object_of(head + lines)):
+            places = [line.split(" [")[1].split(",")[0].rstrip("]") for line in self.text("lint", path).splitlines()]
+            self.assertEqual(places, wanted)
+            results = json.loads(self.text("lint", "--sarif", path))["runs"][0]["results"]
+            self.assertEqual([result["ruleId"] for result in results], wanted)
+            regions = [result["locations"][0]["physicalLocation"]["region"] for result in results]
+            places = [region.get("startLine", region.get("byteOffset")) for region in regions]
+            self.assertEqual(places, sorted(places))
+        for path in examples(".obj"):
+            places = [place for place, *_ in self.split(path, self.text("lint", path))]
+            self.assertEqual(places, sorted(places), path)
 
     def test_the_exit(self):
         clean, full = self.object_of(TWO), self.file("full.obj", programs.read_file(examples("laboratory.obj")[0]))
@@ -233,7 +255,7 @@ class Lint(Case):
         self.assertEqual((whole["view"], whole["exit"]), ("lint", 0))
         found = whole["findings"]
         self.assertEqual(
-            found[0],
+            found[1],
             {
                 "check": "forces-a-master",
                 "level": "note",
@@ -256,8 +278,8 @@ class Lint(Case):
         self.assertEqual((run["tool"]["driver"]["name"], rules), ("pmu lint", [*lint.RULES]))
         places = [result["locations"][0]["physicalLocation"] for result in run["results"]]
         self.assertEqual([place["artifactLocation"]["uri"] for place in places], [path, path, script])
-        self.assertEqual([place["region"] for place in places], [{"byteOffset": 136, "byteLength": 4}, {"byteOffset": 20, "byteLength": 4}, {"startLine": 1}])
-        self.assertEqual([(result["ruleId"], result["level"]) for result in run["results"]], [("forces-a-master", "note"), ("leads-to-all", "note"), ("no-effect", "warning")])
+        self.assertEqual([place["region"] for place in places], [{"byteOffset": 20, "byteLength": 4}, {"byteOffset": 136, "byteLength": 4}, {"startLine": 1}])
+        self.assertEqual([(result["ruleId"], result["level"]) for result in run["results"]], [("leads-to-all", "note"), ("forces-a-master", "note"), ("no-effect", "warning")])
 
     def test_one_master_leads_to_nobody(self):
         lines = ["header", "section masters", "master 1 1 100 1 1", "section power", "power 10 1", "section shutdown", "shutdown 2 1"]
