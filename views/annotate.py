@@ -44,6 +44,14 @@ def node_in_numbers(word: str) -> str:
     return word if number is None else str(number)
 
 
+def number_of_node(word: str) -> int:
+    """The number of a node by its name or number, of which the program has accepted the word."""
+    number = texts.number_of(node_in_numbers(word))
+    if number is None:
+        raise BadUse(f"'{word}' is no number of a node")
+    return number
+
+
 def translated(name: str, room: str) -> tuple[bytes, str]:
     """A file in numbers: its content, and a file in the folder `room` that has it, with no outage that ends by itself: these
     don't count where there is no device."""
@@ -104,9 +112,9 @@ def replay(room: str, obj: str, script: str, *topology: str) -> Shown:
 def reach(_room: str, obj: str, node: str, *topology: str) -> Shown:
     """`reach`, and what more there is on the chip."""
     board = chips.chosen(obj, objects.load(obj), topology)
-    number, over = node_in_numbers(node), board.chip.words()
-    lines = run_text(["reach", obj, number, *over], ["reach", obj, node, *over])
-    return Shown(lines, list(map(meaning_of_reached, lines)), list(beside(board, texts.number_of(number) or 0, lines)))
+    over = board.chip.words()
+    lines = run_text(["reach", obj, node_in_numbers(node), *over], ["reach", obj, node, *over])
+    return Shown(lines, list(map(meaning_of_reached, lines)), list(beside(board, number_of_node(node), lines)))
 
 
 def isolate(room: str, obj: str, script: str, node: str, *topology: str) -> Shown:

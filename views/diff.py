@@ -9,13 +9,13 @@ other master may use, and what it is told, but for the answers to its messages.
 
 import re
 import tempfile
-from typing import Any, Iterator, NamedTuple, Sequence
+from typing import Iterator, NamedTuple, Sequence
 
 import annotate
 import chip as chips
 import findings
-import moves
 import lines as texts
+import moves
 import names
 import objects
 import options
@@ -35,15 +35,26 @@ NODE_USED, ACKNOWLEDGE = 2007, 31
 # The words that a comparison has for units.
 WORDS = {"processor": "proc", "power": "power", "slave": "slave"}
 
+# What each line of a replay that says something is about.
+KINDS = {"run": "run", "reply": "answer", "call": "call", "drop": "answer"}
+
 TITLES = {"answer": "answer to", "call": "callback to", "run": "start of"}
 SAID = {"answer": "answer", "call": "callback", "run": "start"}
 REMARKS = ("DENIED", "REFUSED", "NOT HEARD")
 
 
+class Subject(NamedTuple):
+    """What a row is about: a unit; or a start, an answer or a callback with the processor or the master that it is to."""
+
+    kind: str  # node, line or clock; run, answer or call
+    number: int
+    is_of_device: bool = False  # whether it is a unit as the device has it
+
+
 class Row(NamedTuple):
     """What differs in a step: the two texts, empty where there is nothing."""
 
-    subject: tuple  # what it is about: a unit, a unit of the device, or an answer or a callback with its master
+    subject: Subject
     with_it: str
     without: str
     remark: str
@@ -61,7 +72,7 @@ def is_call(line: str) -> bool:
 
 def is_from(line: str, node: int) -> bool:
     """Whether a line is a message of a master, or a power call that is sent as messages of it."""
-    message = replay_meanings.message_of(line)
+    message = texts.message_of(line)
     return message[0] == node if message else node == split.CALLER and is_call(line)
 
 
@@ -83,57 +94,73 @@ class Word(NamedTuple):
     """A start, an answer or a callback."""
 
     raw: str  # as the program writes it, without its step
-    shown: str
-    status: int  # of an answer, or -1
+    place: int  # of its line in the replay
 
 
 # What is said in a line, by what it is about.
-Words = dict[tuple[str, int], list[Word]]
+Words = dict[Subject, list[Word]]
 
 
-def status_of(kind: str, words: Sequence[int]) -> int:
+class Said(NamedTuple):
+    """What is said in a run."""
+
+    meanings: replay_meanings.Meanings
+    lines: list[list[Word]]  # of the load and of each line of the script
+
+    def words(self, line: int) -> Words:
+        """What is said in a line, by what it is about."""
+        found: Words = {}
+        for word in self.lines[line]:
+            kind, number, *_ = word.raw.split()
+            found.setdefault(Subject(KINDS[kind], int(number)), []).append(word)
+        return found
+
+    def shown(self, word: Word) -> str:
+        """A start, an answer or a callback in words."""
+        kind, *numbers = word.raw.split()
+        if kind == "run":
+            return f"starts at {int(numbers[-1]):#x}"
+        if kind == "drop":
+            return "not heard"
+        said = self.meanings.of(word.place).split(": ", 1)[1]
+        return f"{numbers[1]} {said}" if kind == "reply" else said
+
+
+def status_of(word: Word) -> int:
     """The status of a reply or of an acknowledgement, or -1."""
+    kind, *words = word.raw.split()
     if kind == "reply":
-        return words[1]
-    return words[3] if kind == "call" and words[1] == ACKNOWLEDGE else -1
+        return int(words[1])
+    return int(words[3]) if kind == "call" and int(words[1]) == ACKNOWLEDGE else -1
 
 
-def word_of(kind: str, words: Sequence[int], meaning: str) -> Word:
-    """A start, an answer or a callback by the words of its line and what they mean."""
-    status = status_of(kind, words)
-    said = {"run": f"starts at {words[-1]:#x}", "drop": "not heard"}.get(kind) or meaning.split(": ", 1)[1]
-    return Word(" ".join([kind, *map(str, words)]), f"{status} {said}" if kind == "reply" else said, status)
-
-
-def words_of(chip: Chip, run: steps.Steps, node: int, count: int) -> list[Words]:
-    """Of each line: the starts, answers and callbacks by what they are about. What the master is told by a message of its
-    own, which the other run lacks, is left out."""
-    told, found = run.replay, [{} for _ in range(count + 1)]
-    senders = [(replay_meanings.message_of(line) or [None])[0] for line in told.script]
-    for line, meaning in zip(told.cores, replay_meanings.meanings_of_cores(chip, told.cores, told.script)):
-        step, kind, *rest = line.split()
-        if step == "end" or kind not in ("run", "reply", "call", "drop"):
+def said_in(chip: Chip, run: steps.Steps, node: int, count: int) -> Said:
+    """Of each line the starts, answers and callbacks. What the master is told by a message of its own, which the other run
+    lacks, is left out."""
+    told, numbers, own = run.replay, [0, *run.replay.numbers], str(node)
+    found = Said(replay_meanings.Meanings(chip, told.cores, told.script), [[] for _ in range(count + 1)])
+    for place, line in enumerate(told.cores):
+        step, kind, words = line.split(" ", 2)
+        if kind not in KINDS or step == "end":
             continue
-        core, words = int(step), list(map(int, rest))
-        about = ("answer" if kind == "drop" else kind.replace("reply", "answer"), words[0])
-        if core == 0 or senders[core - 1] != node or about not in (("answer", node), ("call", node)):
-            found[[0, *told.numbers][core]].setdefault(about, []).append(word_of(kind, words, meaning))
+        is_of_node = kind != "run" and words.split(" ", 1)[0] == own
+        if not (is_of_node and replay_meanings.message_at(told.script, int(step))[:1] == (node,)):
+            found.lines[numbers[int(step)]].append(Word(f"{kind} {words}", place))
     return found
 
 
 # Two runs side by side.
 
 
-def joined(words: Sequence[Word], others: Sequence[Word]) -> str:
+def joined(words: Sequence[Word], shown: Sequence[str], beside: Sequence[str]) -> str:
     """What is shown of starts, answers or callbacks: the program's own words if those of the others look the same."""
-    shown, beside = [word.shown for word in words], [word.shown for word in others]
     return "; ".join([word.raw for word in words] if shown == beside else shown)
 
 
 def remark_of(words: Sequence[Word], others: Sequence[Word]) -> str:
     """What became of a message that succeeds without the messages of the master, where it doesn't with them."""
-    statuses = [word.status for word in words]
-    given = [word.status for word in others]
+    statuses = list(map(status_of, words))
+    given = list(map(status_of, others))
     if 0 not in given or 0 in statuses:
         return ""
     denied, refused, unheard = REMARKS
@@ -144,31 +171,35 @@ def remark_of(words: Sequence[Word], others: Sequence[Word]) -> str:
 
 def rows_of_units(chip: Chip, ours: Moved, theirs: Moved) -> Iterator[Row]:
     """What differs in the values of units: in the book; and at the device, if it didn't follow the book."""
-    for unit in {**ours, **theirs}:
-        pair = [run.get(unit) for run in (ours, theirs)]
-        texts = [each.book_text(chip, unit) if each else "" for each in pair]
-        if texts[0] != texts[1]:
-            yield Row((unit.kind, unit.number), *texts, "")
+    for unit in {**ours, **theirs} if ours != theirs else ():
+        pair = ours.get(unit), theirs.get(unit)
+        first, second = (each.book_text(chip, unit) if each else "" for each in pair)
+        if first != second:
+            yield Row(Subject(*unit), first, second, "")
         if any(each and not each.is_followed(chip, unit) for each in pair):
-            texts = [each.device_text(chip, unit) if each else "" for each in pair]
-            if texts[0] != texts[1]:
-                yield Row(("device", unit), *texts, "")
+            first, second = (each.device_text(chip, unit) if each else "" for each in pair)
+            if first != second:
+                yield Row(Subject(*unit, True), first, second, "")
 
 
-def rows_of_words(words: Words, others: Words) -> Iterator[Row]:
+def rows_of_words(runs: tuple[Said, Said], line: int) -> Iterator[Row]:
     """What differs in starts, answers and callbacks."""
+    if [word.raw for word in runs[0].lines[line]] == [word.raw for word in runs[1].lines[line]]:
+        return
+    words, others = runs[0].words(line), runs[1].words(line)
     for about in {**words, **others}:
         ours, theirs = words.get(about, []), others.get(about, [])
         if [word.raw for word in ours] != [word.raw for word in theirs]:
-            yield Row(about, joined(ours, theirs), joined(theirs, ours), remark_of(ours, theirs))
+            shown, beside = list(map(runs[0].shown, ours)), list(map(runs[1].shown, theirs))
+            yield Row(about, joined(ours, shown, beside), joined(theirs, beside, shown), remark_of(ours, theirs))
 
 
-def rows_of_steps(chip: Chip, runs: Sequence[steps.Steps], node: int, count: int) -> Iterator[list[Row]]:
+def rows_of_steps(chip: Chip, runs: tuple[steps.Steps, steps.Steps], node: int, count: int) -> Iterator[list[Row]]:
     """Of each line, what differs."""
-    moved = [moves.of_lines(run, count) for run in runs]
-    words = [words_of(chip, run, node, count) for run in runs]
+    ours, theirs = (moves.of_lines(run, count) for run in runs)
+    said = said_in(chip, runs[0], node, count), said_in(chip, runs[1], node, count)
     for line in range(count + 1):
-        yield [*rows_of_units(chip, *(run[line] for run in moved)), *rows_of_words(*(run[line] for run in words))]
+        yield [*rows_of_units(chip, ours[line], theirs[line]), *rows_of_words(said, line)]
 
 
 # What belongs to the master.
@@ -180,32 +211,35 @@ def users(board: Board, number: int) -> set[int]:
     if chip.is_kind(number, "power"):
         return {user for node in chip.below(number) for user in users(board, node)}
     if chip.is_kind(number, "processor"):
-        return {permits.owner(board, number)} - {None}
+        owner = permits.owner(board, number)
+        return set() if owner is None else {owner}
     return {node for node, record in permits.masters(board).items() if number in permits.slaves_of(board, record.mask)}
 
 
-def is_own(board: Board, node: int, subject: tuple) -> bool:
+def is_own(board: Board, node: int, subject: Subject) -> bool:
     """Whether a unit is of the master alone, or an answer or callback is to it."""
-    kind, number = subject
+    kind, number, _ = subject
     if kind in ("answer", "call"):
         return number == node
-    if kind == "device":
-        kind, number = number
-    if kind == "clock":
-        number = names.CLOCKS[number].node
     if kind == "line":
-        return all(users(board, target) == {node} for target in board.chip.resets[number] or [None])
-    return users(board, number) == {node}
+        targets = board.chip.resets[number]
+        return bool(targets) and all(users(board, target) == {node} for target in targets)
+    return users(board, names.CLOCKS[number].node if kind == "clock" else number) == {node}
+
+
+def own_of(board: Board, node: int, rows: Sequence[list[Row]]) -> dict[Subject, bool]:
+    """Of each unit, answer and callback of some rows, whether it is of the master alone."""
+    return {subject: is_own(board, node, subject) for subject in {row.subject for of_step in rows for row in of_step}}
 
 
 # The text.
 
 
-def title(chip: Chip, subject: tuple) -> str:
+def title(chip: Chip, subject: Subject) -> str:
     """What a row is about, with the words that a comparison has for units."""
-    kind, number = subject
-    if kind == "device":
-        return f"device {title(chip, number)}"
+    kind, number, is_of_device = subject
+    if is_of_device:
+        return f"device {title(chip, Subject(kind, number))}"
     if kind == "line":
         return f"line {names.line_name(number)}"
     if kind == "clock":
@@ -225,13 +259,14 @@ def step_title(step: int, script: Sequence[str]) -> str:
 def table(chip: Chip, steps_with_rows: Sequence[Rows], script: Sequence[str]) -> Iterator[str]:
     """The rows of each step, in columns."""
     rows = [row for _, of_step in steps_with_rows for row in of_step]
-    first = max((len(title(chip, row.subject)) for row in rows), default=0)
+    titles = {subject: title(chip, subject) for subject in {row.subject for row in rows}}
+    first = max(map(len, titles.values()), default=0)
     second = max([len(row.with_it) for row in rows] + [1])
     third = max([len(row.without) for row in rows] + [1])
     for step, of_step in steps_with_rows:
         yield step_title(step, script)
         for row in of_step:
-            cells = f"  {title(chip, row.subject):<{first}}  {row.with_it or '-':<{second}} | {row.without or '-':<{third}}"
+            cells = f"  {titles[row.subject]:<{first}}  {row.with_it or '-':<{second}} | {row.without or '-':<{third}}"
             yield f"{cells}  {row.remark}".rstrip()
 
 
@@ -242,10 +277,12 @@ def part(chip: Chip, name: str, steps_with_rows: Sequence[Rows], script: Sequenc
 
 def text(board: Board, node: int, rows: Sequence[list[Row]], script: Sequence[str], silenced: Sequence[int]) -> Iterator[str]:
     """The text: of others, and then of the master itself."""
-    others, own = [], []
+    is_of_node = own_of(board, node, rows)
+    others: list[Rows] = []
+    own: list[Rows] = []
     for step, of_step in enumerate(rows):
         for kept, part_of in ((others, False), (own, True)):
-            ours = [row for row in of_step if is_own(board, node, row.subject) == part_of]
+            ours = [row for row in of_step if is_of_node[row.subject] == part_of]
             if ours:
                 kept.append((step, ours))
     name = names.node_name(node)
@@ -262,27 +299,29 @@ def text(board: Board, node: int, rows: Sequence[list[Row]], script: Sequence[st
 # As JSON.
 
 
-def in_subject(chip: Chip, subject: tuple) -> dict[str, Any]:
+def in_subject(chip: Chip, subject: Subject) -> dict[str, object]:
     """What a row is about, as keys and values."""
-    kind, number = subject
+    kind, number, is_of_device = subject
     if kind in SAID:
         return {"of": SAID[kind], **findings.unit("processor" if kind == "run" else "master", number)}
-    of, unit = ("device", number) if kind == "device" else ("book", steps.Unit(kind, number))
-    return {"of": of, **findings.unit(chip.nodes[unit.number].kind if unit.kind == "node" else unit.kind, unit.number)}
+    return {"of": "device" if is_of_device else "book", **findings.unit(chip.nodes[number].kind if kind == "node" else kind, number)}
 
 
-def in_row(board: Board, node: int, row: Row) -> dict[str, Any]:
+def in_row(chip: Chip, row: Row, is_of_node: bool) -> dict[str, object]:
     """A row as keys and values."""
     values = {"with": row.with_it or None, "without": row.without or None, "lost": row.remark.lower() or None}
-    return {**in_subject(board.chip, row.subject), "own": is_own(board, node, row.subject), **values}
+    return {**in_subject(chip, row.subject), "own": is_of_node, **values}
 
 
-def in_json(board: Board, node: int, rows: Sequence[list[Row]], script: Sequence[str], silenced: Sequence[int]) -> dict[str, Any]:
+def in_json(board: Board, node: int, rows: Sequence[list[Row]], script: Sequence[str], silenced: Sequence[int]) -> dict[str, object]:
     """What differs, by the lines of the script, as keys and values."""
-    found = []
+    found: list[dict[str, object]] = []
+    is_of_node = own_of(board, node, rows)
     for number, of_step in enumerate(rows):
-        text_of = to_names.line_in_names(script[number - 1], {}) if number else "load"
-        found += [{"line": number, "text": text_of, "rows": [in_row(board, node, row) for row in of_step]}] if of_step else []
+        if of_step:
+            text_of = to_names.line_in_names(script[number - 1], {}) if number else "load"
+            shown = [in_row(board.chip, row, is_of_node[row.subject]) for row in of_step]
+            found.append({"line": number, "text": text_of, "rows": shown})
     calls = sum(is_call(script[number - 1]) for number in silenced)
     return {"master": names.node_name(node), "messages": len(silenced) - calls, "power_calls": calls, "lines": found}
 
@@ -299,14 +338,15 @@ def main(words: Sequence[str]) -> int:
         # (it judges all three, and what it says of a fault is handed on)
         judged = ["isolate", path, script, annotate.node_in_numbers(word), *board.chip.words()]
         program.run(judged, ["isolate", path, file, word, *board.chip.words()])
-        node = texts.number_of(judged[3])
+        node = annotate.number_of_node(word)
         first = re.sub(rb"\r(?=\n|\Z)", b"", content)
         second, silenced = without_messages(first, node)
-        runs = [steps.steps_of(steps.Run(path, board.chip, room), each) for each in (first, second)]
-    script = steps.script_lines(first)
-    rows = list(rows_of_steps(board.chip, runs, node, len(script)))
+        over = steps.Run(path, board.chip, room)
+        runs = steps.steps_of(over, first), steps.steps_of(over, second)
+    lines = steps.script_lines(first)
+    rows = list(rows_of_steps(board.chip, runs, node, len(lines)))
     if given:
-        print(findings.whole("diff", 0, **in_json(board, node, rows, script, silenced)), end="")
+        print(findings.whole("diff", 0, **in_json(board, node, rows, lines, silenced)), end="")
     else:
-        print("".join(line + "\n" for line in text(board, node, rows, script, silenced)), end="")
+        print("".join(line + "\n" for line in text(board, node, rows, lines, silenced)), end="")
     return 0

@@ -1,6 +1,7 @@
 """The lines of a script and of an object's text: their words and numbers, and what is wrong with one."""
 
 import difflib
+import functools
 import re
 from typing import Callable, Collection, Iterable, Optional, Union
 
@@ -14,6 +15,12 @@ MOST_DIGITS = 38
 
 # The cause of a bad line and the sentence of what is wrong with it, or None of a good one.
 Fault = Optional[tuple[int, str]]
+
+# So many lines with a message are read once alone: a script has most of its messages again and again.
+REMEMBERED = 1 << 16
+
+WORD = re.compile(r"[^ \t]+")
+HEXADECIMAL = re.compile(r"0x[0-9a-fA-F]+")
 
 # A line of a script that certainly means something. It decides most lines at once.
 GOOD = re.compile(
@@ -32,7 +39,7 @@ def without_return(line: bytes) -> bytes:
 def placed_words(line: str) -> list[tuple[int, str]]:
     """The words of a line without its comment, each with the place at which it begins. A comment begins with a word."""
     found = []
-    for match in re.finditer(r"[^ \t]+", line[:-1] if line.endswith("\r") else line):
+    for match in WORD.finditer(line.removesuffix("\r")):
         if match.group().startswith("#"):
             break
         found.append((match.start(), match.group()))
@@ -41,17 +48,29 @@ def placed_words(line: str) -> list[tuple[int, str]]:
 
 def words_of(line: Union[bytes, str]) -> list[str]:
     """The words of a line, without its comment and its carriage return."""
-    return [word for _, word in placed_words(line.decode("latin-1") if isinstance(line, bytes) else line)]
+    text = line.decode("latin-1") if isinstance(line, bytes) else line
+    if "#" in text:
+        return [word for _, word in placed_words(text)]
+    return [word for word in text.removesuffix("\r").replace("\t", " ").split(" ") if word]
 
 
 def number_of(word: str) -> Optional[int]:
     """The number that a word stands for as scripts, texts and the program's words have it, or None."""
-    if re.fullmatch(r"0x[0-9a-fA-F]+", word):
-        return int(word, 16)
-    if not re.fullmatch(r"[0-9]+", word):
-        return None
-    digits = word.lstrip("0")
+    if not (word.isascii() and word.isdecimal()):
+        return int(word, 16) if HEXADECIMAL.fullmatch(word) else None
+    digits = word if len(word) <= MOST_DIGITS else word.lstrip("0")
     return int(digits or "0") if len(digits) <= MOST_DIGITS else UNFIT
+
+
+@functools.lru_cache(REMEMBERED)
+def message_of(line: str) -> Optional[tuple[int, ...]]:
+    """The message of a line of a script, sent or put into a box, as numbers: the master, the call and its words. None of
+    any other line."""
+    words = words_of(line)
+    if not words or words[0] not in grammar.MESSAGES:
+        return None
+    numbers = [number_of(word) or 0 for word in words[1:]]
+    return (*numbers, *[0] * (7 - len(numbers)))
 
 
 def like(word: str, known: Iterable[str]) -> str:

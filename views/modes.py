@@ -33,41 +33,45 @@ def owners(run: Run) -> dict[int, int]:
 def awake(changes: Sequence[Sequence[tuple[Unit, int]]], owner: dict[int, int]) -> list[Optional[int]]:
     """After each step a master that is heard, or None: one of which a processor runs."""
     running: dict[int, int] = {}
-    found = []
+    found: list[Optional[int]] = []
+    heard: Optional[int] = None
     for step in changes:
-        running.update({unit.number: value for unit, value in step if unit.kind == "node" and unit.number in owner})
-        found.append(next((owner[proc] for proc in sorted(running) if running[proc]), None))
+        changed = {unit.number: value for unit, value in step if unit.kind == "node" and unit.number in owner} if step else {}
+        if changed:
+            running.update(changed)
+            heard = next((owner[proc] for proc in sorted(running) if running[proc]), None)
+        found.append(heard)
     return found
 
 
 def changed_by(line: str, procs: list[int]) -> list[int]:
-    """Those of the processors whose mode a line of a script may change."""
-    words = [texts.number_of(word) if place else word for place, word in enumerate(texts.words_of(line))]
+    """Those of the processors whose mode a line of a script may change; no message is put into a box."""
+    message = texts.message_of(line)
+    if message:
+        return procs if message[1] in CHANGING else []
+    words = texts.words_of(line)
     if words and words[0] in ("boot", "wfi", "gic"):
-        return [proc for proc in procs if proc == words[1]]
-    if words and (words[0] == "irq" or words[0] == "ipi" and words[2] in CHANGING):
-        return procs
-    return []
+        return [proc for proc in procs if proc == texts.number_of(words[1])]
+    return procs if words and words[0] == "irq" else []
 
 
-def questions(script: list[str], heard: list[Optional[int]], procs: list[int]) -> tuple[list[str], list[Optional[tuple[int, int]]]]:
+def questions(script: list[str], heard: list[Optional[int]], procs: list[int]) -> tuple[list[str], dict[int, tuple[int, int]]]:
     """A script that asks for the modes that a line may have changed, after each line after which a master is heard; and of each
-    line of it the step and the processor that it asks for, if it asks."""
+    of its lines that ask the step and the processor that it asks for."""
     made: list[str] = []
-    asks: list[Optional[tuple[int, int]]] = []
+    asks: dict[int, tuple[int, int]] = {}
     for step, line in enumerate(script, 1):
         made.append(line)
-        asks.append(None)
-        asked = changed_by(line, procs) if heard[step] is not None else []
-        made += [f"ipi {heard[step]} {GET_NODE_STATUS} {proc}" for proc in asked]
-        asks += [(step, proc) for proc in asked]
+        for proc in changed_by(line, procs) if heard[step] is not None else ():
+            made.append(f"ipi {heard[step]} {GET_NODE_STATUS} {proc}")
+            asks[len(made)] = (step, proc)
     return made, asks
 
 
 def asked_modes(run: Run, script: list[str], heard: list[Optional[int]], procs: list[int]) -> dict[int, Modes]:
     """By step the mode of each processor that was asked for."""
     made, asks = questions(script, heard, procs)
-    if not any(asks):
+    if not asks:
         return {}
     try:
         lines = run.lines_of(content_of(made))
@@ -76,7 +80,7 @@ def asked_modes(run: Run, script: list[str], heard: list[Optional[int]], procs: 
     modes: dict[int, Modes] = {}
     for line in lines:
         step, kind, *words = line.split()
-        asked = asks[int(step) - 1] if step not in ("end", "0") and kind == "reply" else None
+        asked = asks.get(int(step)) if step != "end" and kind == "reply" else None
         if asked:
             modes.setdefault(asked[0], {})[asked[1]] = int(words[2])
     return modes
@@ -104,5 +108,5 @@ def of_steps(run: Run, script: list[str], changes: Sequence[Sequence[tuple[Unit,
         if heard[step] is None:
             modes.append(without_a_master(run, script, step, modes[-1], heard[step - 1] is not None))
         else:
-            modes.append(modes[-1] | asked.get(step, {}))
+            modes.append(modes[-1] | asked[step] if step in asked else modes[-1])
     return modes

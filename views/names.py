@@ -13,6 +13,8 @@ import topology
 
 
 class Node(NamedTuple):
+    """A published node."""
+
     number: int
     name: str
     kind: str  # power, processor, slave, or absent: published, but not on the chip
@@ -20,12 +22,16 @@ class Node(NamedTuple):
 
 
 class Clock(NamedTuple):
+    """A clock of this core."""
+
     number: int
     node: int  # the slave that it feeds; of a root the PLL that it comes from
     parents: tuple[int, ...]  # the clocks that can feed it, by their index; a root has none
 
 
 class Call(NamedTuple):
+    """A call or a callback."""
+
     number: int
     name: str
     arguments: Optional[tuple[str, ...]]  # what each word means, a key of WORDS or a plain word; None where it isn't served
@@ -48,6 +54,7 @@ _NODES = {
 
 
 def _node(number: int, name: str) -> Node:
+    """A published node, as the chip has it or lacks it."""
     unit = CHIP.nodes.get(number)
     return Node(number, name, unit.kind if unit else "absent", unit.parent if unit else None)
 
@@ -286,6 +293,12 @@ def clock_words(number: int) -> str:
 def call_name(number: int) -> str:
     """The name of a call, or its number in words."""
     return CALLS[number].name if number in CALLS else f"call {number}"
+
+
+def arguments_of(calls: dict[int, Call], number: int) -> tuple[str, ...]:
+    """What the words of a call or a callback mean; of one that isn't served nothing is known."""
+    call = calls.get(number)
+    return call.arguments or () if call else ()
 
 
 def callback_name(number: int) -> str:

@@ -54,7 +54,8 @@ class Signal(NamedTuple):
     scope: tuple[str, ...]
     name: str
     width: int  # in bits; 0 for a text
-    changes: list  # pairs of a time and a value, or a text
+    changes: list[tuple[int, Value]]  # times with values
+    texts: list[tuple[int, str]]  # of a text, times with what it says
 
     def is_of_device(self) -> bool:
         """Whether this is a unit as the device has it."""
@@ -121,14 +122,16 @@ def value_of(text: str) -> Value:
     return None if "x" in text else int(text, 2)
 
 
-def change_of(line: str) -> Optional[tuple[str, object]]:
-    """The code and the new value of a line that changes a signal, or None."""
+def add_change(signals: dict[str, Signal], time: int, line: str) -> None:
+    """Adds what a line of a dump changes, if it changes a signal."""
     if line[0] in "01x":
-        return line[1:], value_of(line[0])
-    if line[0] in "bs":
-        value, code = line.split()
-        return code, value_of(value[1:]) if line[0] == "b" else unescaped(value[1:]).strip()
-    return None
+        signals[line[1:]].changes.append((time, value_of(line[0])))
+    elif line[0] == "b":
+        value, code = line[1:].split()
+        signals[code].changes.append((time, value_of(value)))
+    elif line[0] == "s":
+        text, code = line[1:].split()
+        signals[code].texts.append((time, unescaped(text).strip()))
 
 
 def read(text: str) -> Dump:
@@ -139,7 +142,6 @@ def read(text: str) -> Dump:
     time = 0
     for line in text.splitlines():
         parts = line.split()
-        change = None if line.startswith("$") else change_of(line)
         if line.startswith("$comment values"):
             words.update({code: parts[2 : parts.index(":")] for code in parts[parts.index(":") + 1 : -1]})
         elif parts[0] == "$scope":
@@ -148,11 +150,11 @@ def read(text: str) -> Dump:
             scope.pop()
         elif parts[0] == "$var":
             width = 0 if parts[1] == "string" else int(parts[2])
-            signals[parts[3]] = Signal(tuple(scope), parts[4], width, [])
+            signals[parts[3]] = Signal(tuple(scope), parts[4], width, [], [])
         elif line.startswith("#"):
             time = int(line[1:])
-        elif change:
-            signals[change[0]].changes.append((time, change[1]))
+        elif not line.startswith("$"):
+            add_change(signals, time, line)
     named = {(signal.scope, signal.name): words.get(code, ()) for code, signal in signals.items()}
     return Dump(list(signals.values()), named, time)
 
@@ -162,7 +164,7 @@ def read(text: str) -> Dump:
 
 def script_of(dump: Dump) -> list[tuple[int, str]]:
     """When each line of the script begins, and what it says."""
-    return [(time, str(text)) for time, text in dump.named("line", ("script",)).changes]
+    return dump.named("line", ("script",)).texts
 
 
 def row_of(dump: Dump, signal: Signal, starts: list[int]) -> Row:

@@ -1,8 +1,8 @@
 """What the lines of a replay mean."""
 
-from typing import Iterator, Optional, Sequence
+import functools
+from typing import Iterator, Sequence
 
-import grammar
 import lines as texts
 import names
 import reached
@@ -15,31 +15,28 @@ RETURN_CODES = {"-1": " (NOT_SUPPORTED)", "-2": " (INVALID_PARAMETERS)", "-3": "
 RETURN_CODES |= {"-4": " (ALREADY_ON)", "-6": " (INTERNAL_FAILURE)"}
 
 
-def message_of(line: str) -> Optional[list[int]]:
-    """The message of a line of a script, sent or put into a box, as numbers: the master, the call and its words. None of
-    any other line."""
-    words = texts.words_of(line)
-    if not words or words[0] not in grammar.MESSAGES:
-        return None
-    numbers = [texts.number_of(word) or 0 for word in words[1:]]
-    return numbers + [0] * (7 - len(numbers))
-
-
-def is_answered(message: Sequence[int]) -> bool:
+@functools.lru_cache(texts.REMEMBERED)
+def is_answered(message: tuple[int, ...]) -> bool:
     """Whether the message gets a reply in its own step, as far as its words say."""
     _, api, *words = message
-    arguments = getattr(names.CALLS.get(api), "arguments", None) or ()
+    arguments = names.arguments_of(names.CALLS, api)
     return "ack" not in arguments or words[arguments.index("ack")] not in (1, 3)
 
 
-def answers(lines: Sequence[Sequence[str]], messages: dict[int, Optional[list[int]]]) -> set[int]:
+def message_at(script: Sequence[str], step: int) -> tuple[int, ...]:
+    """The message of a step of a script; nothing if it has none."""
+    return texts.message_of(script[step - 1]) or () if step else ()
+
+
+def answers(lines: Sequence[str], script: Sequence[str]) -> set[int]:
     """The places of the replies that answer the message of their own line; all others are late."""
     last: dict[str, int] = {}
-    for place, words in enumerate(lines):
-        if words[0] != "end" and words[1] == "reply":
-            message = messages.get(int(words[0]))
-            if message and int(words[2]) == message[0] and is_answered(message):
-                last[words[0]] = place
+    for place, line in enumerate(lines):
+        step, kind, words = line.split(" ", 2)
+        if kind == "reply":
+            message = message_at(script, int(step))
+            if message and int(words.split(" ", 1)[0]) == message[0] and is_answered(message):
+                last[step] = place
     return set(last.values())
 
 
@@ -88,19 +85,20 @@ def lags(chip: Chip, message: Sequence[int], failed: dict[int, int]) -> str:
     """What is said of units that the device has otherwise than the book: the nodes of a message and those above them, by
     the commands that failed in its step, each with the value that the unit has."""
     _, api, *words = message
-    arguments = zip(getattr(names.CALLS.get(api), "arguments", None) or (), words)
+    arguments = zip(names.arguments_of(names.CALLS, api), words)
     nodes = [number for kind, number in arguments if kind == "node" and number in chip.nodes]
     shown = [unit for unit in failed if any(unit == node or chip.is_above(unit, node) for node in nodes)]
     return "".join(f"; {names.node_name(unit)} lags: {chip.kept_name(unit, failed[unit])}" for unit in shown)
 
 
-def failed_by_step(lines: Sequence[Sequence[str]]) -> dict[str, dict[int, int]]:
+def failed_by_step(lines: Sequence[str]) -> dict[str, dict[int, int]]:
     """Of each step the nodes whose commands failed in it, each with the value that the device has. What failed is tried
     again in each step."""
     failed: dict[str, dict[int, int]] = {}
-    for step, kind, *rest in lines:
+    for line in lines:
+        step, kind, words = line.split(" ", 2)
         if kind == "fail":
-            unit, kept, _ = map(int, rest)
+            unit, kept, _ = map(int, words.split())
             failed.setdefault(step, {})[unit] = kept
     return failed
 
@@ -152,32 +150,46 @@ def meaning_of_clock_at_end(clock: int, divider: int, index: int) -> str:
     return f"{names.clock_words(clock)} runs, fed by {parent} and divided by {divider}"
 
 
-def meanings_of_cores(chip: Chip, lines: Sequence[str], script: Sequence[str]) -> Iterator[str]:
-    """What the lines of `replay` mean where each line of the script, which is in numbers, is one core event."""
-    split = [line.split() for line in lines]
-    messages = {number: message_of(line) for number, line in enumerate(script, 1)}
-    answered, failed = answers(split, messages), failed_by_step(split)
-    for place, (step, kind, *rest) in enumerate(split):
-        words = list(map(int, rest)) if step != "end" else []
+class Meanings:
+    """What the lines of `replay` mean if each line of the script, which is in numbers, is one core event."""
+
+    def __init__(self, chip: Chip, lines: Sequence[str], script: Sequence[str]) -> None:
+        """The meanings of all lines, each of which is found once it is asked for."""
+        self.chip, self.lines, self.script = chip, lines, script
+
+    @functools.cached_property
+    def answered(self) -> set[int]:
+        """The places of the replies that answer the message of their own line."""
+        return answers(self.lines, self.script)
+
+    @functools.cached_property
+    def failed(self) -> dict[str, dict[int, int]]:
+        """Of each step the nodes whose commands failed in it, each with the value that the device has."""
+        return failed_by_step(self.lines)
+
+    def of(self, place: int) -> str:
+        """The meaning of the line at a place."""
+        step, kind, *rest = self.lines[place].split()
+        words = list(map(int, rest))
         if step == "end":
-            yield meaning_of_end(chip, kind, *map(int, rest))
-        elif kind == "run":
-            yield f"{names.node_name(words[0])} starts at {words[1]:#x}"
-        elif kind == "drop":
-            yield f"{names.node_name(words[0])} isn't heard"
-        elif kind == "call":
-            yield f"{names.node_name(words[0])}: {meaning_of_callback(chip, words[1], words[2:])}"
-        elif kind == "reply" and place in answered:
-            yield meaning_of_reply(chip, messages[int(step)] or [], words, failed.get(step, {}))
-        elif kind == "reply":
-            yield f"{names.node_name(words[0])}: its request to suspend ended with {names.status_words(words[1])}"
-        else:
-            yield meaning_of_command(chip, kind, *words)
+            return meaning_of_end(self.chip, kind, *words)
+        if kind == "run":
+            return f"{names.node_name(words[0])} starts at {words[1]:#x}"
+        if kind == "drop":
+            return f"{names.node_name(words[0])} isn't heard"
+        if kind == "call":
+            return f"{names.node_name(words[0])}: {meaning_of_callback(self.chip, words[1], words[2:])}"
+        if kind == "reply" and place in self.answered:
+            return meaning_of_reply(self.chip, message_at(self.script, int(step)), words, self.failed.get(step, {}))
+        if kind == "reply":
+            return f"{names.node_name(words[0])}: its request to suspend ended with {names.status_words(words[1])}"
+        return meaning_of_command(self.chip, kind, *words)
 
 
 def meanings_of_replay(chip: Chip, told: Replay) -> Iterator[str]:
     """What the lines of a replay mean."""
-    meanings = meanings_of_cores(chip, told.cores, told.script)
+    cores = Meanings(chip, told.cores, told.script)
+    meanings = map(cores.of, range(len(told.cores)))
     for line in told.lines:
         step, kind, number, *words = line.split()
         if kind == "clock":

@@ -5,6 +5,7 @@ message, by rising mask of their masters. A power call by `smc` becomes the line
 nothing is empty.
 """
 
+import re
 from typing import Sequence
 
 import lines as texts
@@ -18,16 +19,20 @@ CPU_ON, AFFINITY_INFO = (0x84000003, 0xC4000003), (0x84000004, 0xC4000004)
 LOW = 0xFFFFFFFF
 
 
+# Lines that aren't their own core event.
+OTHERS = re.compile(r"[ \t]*(?:post|serve|smc)(?![^ \t\r])")
+
+
 def first_word(line: str) -> str:
     """The first word of a line, or an empty one."""
-    words = texts.words_of(line)
-    return words[0] if words else ""
+    found = texts.WORD.search(line.removesuffix("\r"))
+    return found[0] if found and not found[0].startswith("#") else ""
 
 
 def is_split(script: Sequence[str]) -> bool:
     """Whether a line of a script isn't its own core event: it puts a message into a box, serves the boxes, or is a power
     call."""
-    return any(first_word(line) in ("post", "serve", "smc") for line in script)
+    return any(map(OTHERS.match, script))
 
 
 def lowered(line: str, targets: Sequence[int]) -> list[str]:

@@ -6,6 +6,7 @@ book goes on without it; so the values of the book are those of the script witho
 device follows each step. Which clocks run follows from the book.
 """
 
+import re
 from typing import NamedTuple, Optional
 
 import modes
@@ -19,6 +20,10 @@ OWN = ("busy", "late", "clock", "task", "notask", "smc")
 
 # The lines of commands, each with the kind of its unit and whether the device took it.
 COMMANDS = {"set": ("node", True), "fail": ("node", False), "line": ("line", True), "linefail": ("line", False)}
+
+
+# The lines of a script that break nodes and mend them.
+BREAKING = re.compile(r"[ \t]*(?:break|mend)(?![^ \t\r])")
 
 
 class Command(NamedTuple):
@@ -56,7 +61,7 @@ class Steps(NamedTuple):
 
 def of_cores(lines: list[str]) -> list[str]:
     """The lines of a replay without those that its script lines write themselves."""
-    return [line for line in lines if line.split()[1] not in OWN]
+    return [line for line in lines if line.split(" ", 2)[1] not in OWN]
 
 
 def replay_of(run: Run, content: bytes, name: Optional[str] = None) -> Replay:
@@ -74,16 +79,17 @@ def commands_of(lines: list[str], count: int) -> list[list[Command]]:
     """The commands of each step, in their order."""
     found: list[list[Command]] = [[] for _ in range(count + 1)]
     for line in lines:
-        step, kind, *words = line.split()
+        step, kind, words = line.split(" ", 2)
         if step != "end" and kind in COMMANDS:
             unit, is_taken = COMMANDS[kind]
-            found[int(step)].append(Command(Unit(unit, int(words[0])), int(words[2]), is_taken))
+            number, _, value = map(int, words.split())
+            found[int(step)].append(Command(Unit(unit, number), value, is_taken))
     return found
 
 
 def unbroken(script: list[str]) -> list[str]:
     """A script without the lines that break and mend nodes: these are empty."""
-    return ["" if split.first_word(line) in ("break", "mend") else line for line in script]
+    return ["" if BREAKING.match(line) else line for line in script]
 
 
 def changes_of(commands: list[list[Command]]) -> list[list[tuple[Unit, int]]]:
@@ -92,18 +98,20 @@ def changes_of(commands: list[list[Command]]) -> list[list[tuple[Unit, int]]]:
     now: dict[Unit, int] = {}
     changes = []
     for step in commands:
-        after = {command.unit: command.value for command in step}
-        changes.append([(unit, value) for unit, value in after.items() if now.get(unit, 0) != value])
+        after = {command.unit: command.value for command in step} if step else {}
+        changes.append([(unit, value) for unit, value in after.items() if now.get(unit, 0) != value] if step else [])
         now.update(after)
     return changes
 
 
 def with_modes(changes: list[list[tuple[Unit, int]]], found: list[modes.Modes]) -> list[list[tuple[Unit, int]]]:
     """The changes with the mode of a processor in place of whether it runs."""
-    made, before = [], {}
+    made = []
+    before: modes.Modes = {}
     for step, after in zip(changes, found):
-        others = [(unit, value) for unit, value in step if unit.kind == "line" or unit.number not in after]
-        made.append([(Unit("node", proc), mode) for proc, mode in after.items() if before.get(proc, 0) != mode] + others)
+        others = [(unit, value) for unit, value in step if unit.kind == "line" or unit.number not in after] if step else []
+        moved = [(Unit("node", proc), mode) for proc, mode in after.items() if before.get(proc, 0) != mode] if after is not before else []
+        made.append(moved + others)
         before = after
     return made
 
@@ -120,9 +128,10 @@ def clocks_of(lines: list[str]) -> dict[int, list[tuple[Unit, int]]]:
     """By line the clocks that begin to run (1) or cease to (0)."""
     found: dict[int, list[tuple[Unit, int]]] = {}
     for line in lines:
-        step, kind, *words = line.split()
+        step, kind, words = line.split(" ", 2)
         if step != "end" and kind == "clock":
-            found.setdefault(int(step), []).append((Unit(kind, int(words[0])), int(words[2])))
+            number, _, runs = map(int, words.split())
+            found.setdefault(int(step), []).append((Unit(kind, number), runs))
     return found
 
 

@@ -149,14 +149,17 @@ def masters_of(text: Iterable[str]) -> dict[int, int]:
 
 def in_numbers(content: bytes, name: str) -> bytes:
     """The content of a file, a script or a text, with numbers in place of names. A fault is told with its line."""
-    text = content.decode("latin-1").split("\n")
-    masters, made = masters_of(text), []
+    text = content.split(b"\n")
+    masters = masters_of(line.decode("latin-1") for line in text if b"master" in line)
+    made = []
     for number, line in enumerate(text, 1):
         try:
-            made.append(line_in_numbers(line, masters))
+            # (a line of a script without names is decided at once)
+            is_done = lines.GOOD.fullmatch(line)
+            made.append(line if is_done else line_in_numbers(line.decode("latin-1"), masters).encode("latin-1"))
         except Unknown as fault:
             raise BadUse(f"{faults.name_of(name)}:{number}: {fault}") from None
-    return "\n".join(made).encode("latin-1")
+    return b"\n".join(made)
 
 
 def of_the_program(script: bytes, name: str) -> bytes:

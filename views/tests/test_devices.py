@@ -142,7 +142,7 @@ class Devices(Case):
         wanted = {" ".join(line.split()[1:]) for line in compared.decode().splitlines() if line.startswith("differ")}
         other = steps.steps_of(self.run_of(board, path), second)
         units = {unit for _, unit, _, _ in self.transitions(run) ^ self.transitions(other)}
-        self.assertEqual({f"{diff.title(board.chip, unit).split()[0]} {unit.number}" for unit in units}, wanted, (node, content))
+        self.assertEqual({f"{diff.title(board.chip, diff.Subject(*unit)).split()[0]} {unit.number}" for unit in units}, wanted, (node, content))
         return len(wanted)
 
     def check(self, board, path, content, nodes):
@@ -205,7 +205,7 @@ class Devices(Case):
         scope = ("FPD", "APU")
         self.assertEqual(dump.named("APU_0", scope).changes, [(0, 1), (4000, 0)])
         self.assertEqual(dump.named("APU_0", ("device", *scope)).changes, [(0, 0), (4, 1), (4001, None), (4002, 1), (5001, None), (5002, 1)])
-        self.assertEqual(dump.named("refused").changes[4:], [(4000, "APU_0 off"), (5000, "APU_0 off")])
+        self.assertEqual(dump.named("refused").texts[4:], [(4000, "APU_0 off"), (5000, "APU_0 off")])
 
     def test_a_device_that_is_mended_follows(self):
         script = "ipi 1 21\nbreak 33\nipi 1 13 33 1 0 2\nmend 33\n"

@@ -2,8 +2,8 @@
 
 import unittest
 
-import replay_meanings
 import diff
+import lines
 import program as programs
 from common import Case, board_of, example, examples, program, view
 
@@ -134,11 +134,11 @@ class Text(Case):
 
     def test_what_is_of_a_master_alone(self):
         found = board_of(example("laboratory.obj"))
-        own = [number for number in [1, 2, 6, 7, 10, 11, 28, 33, 62] if diff.is_own(found, 1, ("node", number))]
+        own = [number for number in [1, 2, 6, 7, 10, 11, 28, 33, 62] if diff.is_own(found, 1, diff.Subject("node", number))]
         self.assertEqual(own, [1, 2, 33])
-        self.assertEqual([number for number in [1, 6, 7, 8, 10, 33] if diff.is_own(found, 7, ("node", number))], [6, 7])
-        self.assertTrue(diff.is_own(found, 1, ("line", 33)) and diff.is_own(found, 7, ("run", 7)) and diff.is_own(found, 7, ("call", 7)))
-        self.assertFalse(diff.is_own(found, 7, ("line", 33)) or diff.is_own(found, 7, ("answer", 1)))
+        self.assertEqual([number for number in [1, 6, 7, 8, 10, 33] if diff.is_own(found, 7, diff.Subject("node", number))], [6, 7])
+        self.assertTrue(diff.is_own(found, 1, diff.Subject("line", 33)) and diff.is_own(found, 7, diff.Subject("run", 7)) and diff.is_own(found, 7, diff.Subject("call", 7)))
+        self.assertFalse(diff.is_own(found, 7, diff.Subject("line", 33)) or diff.is_own(found, 7, diff.Subject("answer", 1)))
 
     def test_bad_use(self):
         script = self.file("script", SCRIPT)
@@ -155,7 +155,7 @@ class Messages(unittest.TestCase):
         content = b"ipi 1 21\n\tipi 0x7 21 # a\nipi 8 21\nirq 7\nipi 007 3\nipi 7\n#ipi 7 21\nipi 77 21\npost 7 1\nserve\npost 1 7"
         wanted = b"ipi 1 21\n\nipi 8 21\nirq 7\n\n\n#ipi 7 21\nipi 77 21\n\nserve\npost 1 7"
         self.assertEqual(diff.without_messages(content, 7), (wanted, [2, 5, 6, 9]))
-        self.assertEqual(replay_meanings.message_of("irq 7"), None)
+        self.assertEqual(lines.message_of("irq 7"), None)
 
 
 if __name__ == "__main__":

@@ -86,9 +86,9 @@ class Waveform(Case):
         script = self.file("names.script", "ipi APU INIT_FINALIZE # done\n\nipi 1 13 33 1 0 2\nipi RPU_0 3 33")
         dump = self.dump(example("laboratory.obj"), script)
         lines = ["load", "ipi APU INIT_FINALIZE", "", "ipi APU REQUEST_NODE UART_0 ACCESS 0 BLOCKING", "ipi RPU_0 GET_NODE_STATUS UART_0"]
-        self.assertEqual(by_lines(dump.named("line").changes), list(enumerate(lines)))
+        self.assertEqual(by_lines(dump.named("line").texts), list(enumerate(lines)))
         answers = ["", "APU: success", "", "APU: success", "RPU_0 isn't heard"]
-        self.assertEqual(by_lines(dump.named("answer").changes), list(enumerate(answers)))
+        self.assertEqual(by_lines(dump.named("answer").texts), list(enumerate(answers)))
         self.assertEqual(dump.end, 5000)
 
     def test_what_a_line_serves_is_at_its_time(self):
@@ -96,19 +96,19 @@ class Waveform(Case):
         dump = self.dump(example("laboratory.obj"), script)
         lines = ["load", "post APU INIT_FINALIZE", "post APU RESET_ASSERT UART_0 PULSE", "serve"]
         lines += ["post APU RESET_ASSERT UART_0 PULSE", "post RPU_1 GET_API_VERSION", "serve"]
-        self.assertEqual(by_lines(dump.named("line").changes), list(enumerate(lines)))
+        self.assertEqual(by_lines(dump.named("line").texts), list(enumerate(lines)))
         answers = ["", "", "APU: its box is full", "APU: success", "", "RPU_1 isn't heard", "APU: success"]
-        self.assertEqual(by_lines(dump.named("answer").changes), list(enumerate(answers)))
+        self.assertEqual(by_lines(dump.named("answer").texts), list(enumerate(answers)))
         self.assertEqual(dump.named("reset_UART_0", ("device", "reset_lines")).changes, [(0, 0), (6001, 1), (6002, 0)])
 
     def test_the_calls_of_timed_tasks_are_at_their_time(self):
         script = self.file("tasks.script", "task 0 2\ntask 1 1\ntick 2\nipi 1 260 511\ncancel 2")
         dump = self.dump(example("laboratory.obj"), script)
         lines = ["load", "task 0 2", "task 1 1", "tick 2", "ipi APU 260 511", "cancel 2"]
-        self.assertEqual(by_lines(dump.named("line").changes), list(enumerate(lines)))
+        self.assertEqual(by_lines(dump.named("line").texts), list(enumerate(lines)))
         answers = ["", "", "", "timed task 0 is called at 2 and answers 1; timed task 1 is called at 2 and answers 1"]
         answers += ["APU: success, words 255 0 0", "no timed task 2, or no interval"]
-        self.assertEqual(by_lines(dump.named("answer").changes), list(enumerate(answers)))
+        self.assertEqual(by_lines(dump.named("answer").texts), list(enumerate(answers)))
 
     def test_a_script_with_carriage_returns(self):
         with open(example("sleep.script"), "rb") as file:
@@ -126,7 +126,7 @@ class Waveform(Case):
         text = self.text("--vcd", "--ticks", "replay", example("laboratory.obj"), script)
         self.assertIn("$timescale 1 ms $end", text)
         dump = picture.read(text)
-        starts = [time for time, _ in dump.named("line").changes]
+        starts = [time for time, _ in dump.named("line").texts]
         self.assertEqual([time // 1000 for time in starts], [0, 0, 3, 3, 3, 3, 7])
         self.assertEqual(sorted(set(starts)), starts)
         self.assertEqual(dump.end, 8000)
@@ -173,7 +173,7 @@ class Waveform(Case):
         self.assertEqual(by_lines(dump.named("clock_UART_0", ("clocks",)).changes), changes)
         self.assertEqual(by_lines(dump.named("clock_TTC_0", ("clocks",)).changes), [(0, 0), (8, 1), *changes[2:]])
         self.assertEqual(dump.named("clock_UART_1", ("clocks",)).changes, [(0, 0)])
-        self.assertEqual(dump.named("answer").changes[6], (6000, "APU: success, runs"))
+        self.assertEqual(dump.named("answer").texts[6], (6000, "APU: success, runs"))
 
     @unittest.skipUnless(shutil.which("vcd2fst"), "GTKWave isn't installed")
     def test_gtkwave_reads_the_dump(self):
