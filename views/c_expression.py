@@ -29,12 +29,16 @@ LIMITS = {Kind.INT: MOST >> 1, Kind.UNSIGNED: MOST, Kind.WIDE: MOST >> 1, Kind.W
 
 
 class Value(NamedTuple):
+    """A value, as far as it is the same for each compiler."""
+
     bits: int  # the low 32 bits
     kind: Kind
     is_sure: bool = True  # whether the bits are the whole value, so that it has no sign and no higher bits
 
 
 class Token(NamedTuple):
+    """A word or a mark of a C file."""
+
     kind: str  # name, number, string, mark, or other
     text: str
     line: int
@@ -46,6 +50,7 @@ class Unread(Exception):
     """Something that isn't read as a number; the line is 0 at the end of the expression."""
 
     def __init__(self, message: str, line: int = 0) -> None:
+        """What is said of it, with its line."""
         super().__init__(message)
         self.line = line
 
@@ -104,6 +109,7 @@ def bitwise(token: Token, left: Value, right: Value) -> Value:
 
 
 def shifted(token: Token, left: Value, right: Value) -> Value:
+    """`<<` and `>>`."""
     all_sure(token, left, right)
     if right.bits > 31:
         raise Unread("a shift by more than 31", token.line)
@@ -131,6 +137,7 @@ def fitted(token: Token, whole: int, kind: Kind, is_bit_31_kept: bool = False) -
 
 
 def compared(token: Token, left: Value, right: Value) -> Value:
+    """The comparisons, which give 1 or 0."""
     all_sure(token, left, right)
     return Value(int(_operator(token)(left.bits, right.bits)), Kind.INT)
 
@@ -141,10 +148,12 @@ def decided(token: Token, left: Value, right: Value) -> Value:
 
 
 def complement(value: Value) -> Value:
+    """`~`, which may give a sign to a value that had none."""
     return Value(MOST - value.bits, value.kind, value.is_sure and value.kind == Kind.UNSIGNED)
 
 
 def _operator(token: Token) -> Callable[[int, int], int]:
+    """What an operator does with two whole numbers."""
     return next(level[token.text] for level in _LEVELS if token.text in level)
 
 
@@ -153,14 +162,19 @@ _JUDGES = [decided, decided, bitwise, bitwise, bitwise, compared, compared, shif
 
 
 class _Parser:
+    """Reads an expression from the front."""
+
     def __init__(self, tokens: list[Token], value_of: Callable[[Token], Optional[int]], is_condition: bool) -> None:
+        """A reader at the first of these tokens."""
         self.tokens, self.value_of, self.is_condition = tokens, value_of, is_condition
         self.place = self.depth = 0
 
     def next(self) -> Optional[Token]:
+        """The token that comes next, or None at the end."""
         return self.tokens[self.place] if self.place < len(self.tokens) else None
 
     def take(self) -> Token:
+        """Takes the next token, which has to be there."""
         token = self.next()
         if token is None:
             raise Unread("a value is missing")
@@ -178,6 +192,7 @@ class _Parser:
         return found
 
     def unary(self) -> Value:
+        """A value with the operators before it."""
         token = self.take()
         if token.text == "(":
             return self.bracket(token)
@@ -188,6 +203,7 @@ class _Parser:
         return self.single(token)
 
     def bracket(self, token: Token) -> Value:
+        """An expression and the bracket behind it; the token is the one before."""
         found = self.deeper(token, self.binary)
         end = self.next()
         if end is None:
@@ -198,6 +214,7 @@ class _Parser:
         return found
 
     def deeper(self, token: Token, read: Callable[[], Value]) -> Value:
+        """Reads what is within a bracket or behind an operator, unless too many are open."""
         self.depth += 1
         if self.depth > DEPTH:
             raise Unread(f"more than {DEPTH} brackets", token.line)
@@ -206,6 +223,7 @@ class _Parser:
         return found
 
     def single(self, token: Token) -> Value:
+        """A number or a name."""
         if token.kind == "name":
             known = self.value_of(token)
             if known is None:
@@ -225,10 +243,12 @@ class _Parser:
 
 
 def unread(token: Token) -> Unread:
+    """The fault of a token that has no place here."""
     return Unread(f"`{token.text}` isn't read here", token.line)
 
 
 def _whole(tokens: Iterable[Token], value_of: Callable[[Token], Optional[int]], is_condition: bool) -> Value:
+    """The value of an expression behind which nothing is left."""
     parser = _Parser(list(tokens), value_of, is_condition)
     found = parser.binary()
     left = parser.next()

@@ -18,6 +18,7 @@ class Refused(program.BadUse):
     """A form that isn't read, with its file and line."""
 
     def __init__(self, file: str, line: int, message: str) -> None:
+        """What is said of a form, with its file and line."""
         super().__init__(f"{file}:{line}: {message}")
 
 
@@ -63,6 +64,7 @@ class Source:
     """A C file: its tokens but for the directives, and the names that it defines."""
 
     def __init__(self, file: str, text: str) -> None:
+        """Reads the text of a file of this name, to its end."""
         self.file = file
         self.defines: dict[str, Optional[list[Token]]] = {}
         self.tokens: list[Token] = []
@@ -79,9 +81,11 @@ class Source:
             raise Refused(file, self._branches[-1][2], "a conditional begins and doesn't end")
 
     def _counts(self) -> bool:
+        """Whether a line here counts: each conditional around it holds."""
         return all(counts for counts, _, _ in self._branches)
 
     def _directive(self, mark: Token, tokens: list[Token]) -> None:
+        """A line of the preprocessor, by the tokens behind its mark."""
         word = tokens[0].text if tokens else ""
         rest = tokens[1:]
         if word in ("if", "ifdef", "ifndef"):
@@ -112,6 +116,7 @@ class Source:
             raise Refused(self.file, fault.line or mark.line, str(fault)) from None
 
     def _is_defined(self, name: Token) -> bool:
+        """Whether a name is defined here, for each compiler alike."""
         if name.text in self.defines:
             return True
         if name.text in self._undefined or name.text in UNDEFINED:
@@ -128,6 +133,7 @@ class Source:
         return 0
 
     def _refuse_unsure(self, name: Token) -> None:
+        """Refuses a name that the compiler or an included file may define."""
         if OF_COMPILER.fullmatch(name.text):
             raise Refused(self.file, name.line, f"the condition depends on the compiler, by {name.text}")
         if self._includes:
@@ -151,6 +157,7 @@ class Source:
         return made
 
     def _define(self, word: str, mark: Token, rest: list[Token]) -> None:
+        """A directive that is no conditional."""
         if word in ("define", "undef"):
             name = self._name(word, mark, rest)
             self.defines.pop(name.text, None)
@@ -165,6 +172,7 @@ class Source:
             raise Refused(self.file, mark.line, f"the directive #{word} isn't read here")
 
     def _name(self, word: str, mark: Token, tokens: list[Token]) -> Token:
+        """The name behind a directive."""
         if not tokens or tokens[0].kind != "name":
             raise Refused(self.file, mark.line, f"#{word} names nothing")
         return tokens[0]
@@ -191,6 +199,7 @@ class Source:
             ahead += [(part._replace(line=token.line), (*within, token.text)) for part in reversed(body)]
 
     def _too_long(self, token: Token) -> Refused:
+        """The fault of an expression that grows without end."""
         return Refused(self.file, token.line, f"the expression has more than {c_expression.LONGEST} words")
 
     def value(self, tokens: list[Token], line: int, value_of: Callable[[str], Optional[int]]) -> int:

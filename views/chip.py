@@ -85,7 +85,7 @@ def read(source: Optional[str] = None) -> Chip:
     try:
         return chip_of(content.split(b"\n"), source)
     except (ValueError, TypeError, KeyError, IndexError):
-        raise program.BadUse(f"{faults.name_of(source)}: this is no topology; ./pmu table writes one") from None
+        raise program.BadUse(f"{faults.name_of(source or OWN)}: this is no topology; ./pmu table writes one") from None
 
 
 def judged(path: str, found: objects.Object, source: str) -> None:

@@ -7,7 +7,7 @@ topology.
 """
 
 import os
-from typing import Any, Iterable, Iterator, NamedTuple, Sequence
+from typing import Iterable, Iterator, NamedTuple, Sequence
 
 import chip as chips
 import faults
@@ -201,21 +201,21 @@ def lines_of(found: Differences) -> Iterator[str]:
 # As JSON.
 
 
-def in_reach(master: Master, alone: Alone) -> Iterator[dict[str, Any]]:
+def in_reach(master: Master, alone: Alone) -> Iterator[dict[str, object]]:
     """What is in one reach alone, as keys and values."""
     for unit in ordered(alone.units):
         paths = [{"masters": list(path.masters), "why": list(path.why)} for path in alone.units[unit]]
         yield {"by": BY[alone.mark], "master": names.node_name(master.node), **findings.unit(*unit), "paths": paths}
 
 
-def in_step(master: Master) -> Iterator[dict[str, Any]]:
+def in_step(master: Master) -> Iterator[dict[str, object]]:
     """The steps that have other reasons, as keys and values."""
     for unit in ordered(master.steps):
         first, second = master.steps[unit]
         yield {"master": names.node_name(master.node), **findings.unit(*unit), "first": list(first), "second": list(second)}
 
 
-def in_json(found: Differences, paths: Sequence[str]) -> dict[str, Any]:
+def in_json(found: Differences, paths: Sequence[str]) -> dict[str, object]:
     """What differs as keys and values."""
     return {
         "objects": [faults.name_of(path) for path in paths],

@@ -7,6 +7,7 @@ resets and clocks (include/dt-bindings of Linux). Another name in a cell counts 
 import os
 import re
 import struct
+from typing import NamedTuple, Optional, TypeVar
 
 import names
 import published
@@ -26,6 +27,18 @@ STRING = re.compile(r'"((?:\\.|[^"\\])*)"')
 CELL = re.compile(r"\w+|'(?:\\.|[^'])'")
 DEEPEST = 8
 
+Member = TypeVar("Member")
+
+
+class Fix(NamedTuple):
+    """A cell that is the phandle of a node which a reference names, by its label or its path."""
+
+    node: Node
+    name: str  # of the property
+    place: int  # of the cell, in bytes
+    label: Optional[str]
+    path: Optional[str]
+
 
 def with_includes(path: str, depth: int = 0) -> str:
     """A source without comments and with the files that it includes. Headers in <> are those of the bindings."""
@@ -40,24 +53,32 @@ def with_includes(path: str, depth: int = 0) -> str:
 class Source:
     """A reader over the text of a source."""
 
-    def __init__(self, text: str, name: str):
-        self.defines = dict(DEFINE.findall(text))
+    def __init__(self, text: str, name: str) -> None:
+        """A reader over a text of this name, which has no directive left but for plain definitions."""
+        self.defines: dict[str, str] = dict(DEFINE.findall(text))
         text = DEFINE.sub("", text)
         directive = DIRECTIVE.search(text)
         if directive:
             raise BadUse(f"{name}: the line '{directive[0].strip()}' isn't read: give what the C preprocessor makes of it, or the blob")
         self.text, self.name, self.place = text, name, 0
-        self.root, self.labels = Node(""), {}
-        self.fixes, self.unknown = [], {}  # cells that are phandles; the names that aren't known, by node and property
+        self.root = Node("")
+        self.labels: dict[str, Node] = {}
+        self.fixes: list[Fix] = []
+        self.unknown: dict[tuple[Node, str], str] = {}  # the names that aren't known, by node and property
+
+    def space(self) -> int:
+        """The place behind the spaces that come next."""
+        found = SPACE.match(self.text, self.place)
+        return found.end() if found else self.place
 
     def fault(self, wanted: str) -> BadUse:
         """What is wrong at the place of the reader."""
         found = " ".join(self.text[self.place : self.place + 30].split()) or "the end"
         return BadUse(f"{self.name}: {wanted} is wanted in the device tree, not '{found}'")
 
-    def take(self, pattern) -> "re.Match | None":
+    def take(self, pattern: re.Pattern[str]) -> Optional[re.Match[str]]:
         """What is next, if it has this form."""
-        self.place = SPACE.match(self.text, self.place).end()
+        self.place = self.space()
         found = pattern.match(self.text, self.place)
         if found:
             self.place = found.end()
@@ -65,20 +86,20 @@ class Source:
 
     def has(self, text: str) -> bool:
         """Whether this is next, which is taken then."""
-        self.place = SPACE.match(self.text, self.place).end()
+        self.place = self.space()
         if not self.text.startswith(text, self.place):
             return False
         self.place += len(text)
         return True
 
-    def want(self, text: str):
+    def want(self, text: str) -> None:
         """Takes what has to be next."""
         if not self.has(text):
             raise self.fault(f"'{text}'")
 
     def read(self) -> Tree:
         """The tree."""
-        while SPACE.match(self.text, self.place).end() < len(self.text):
+        while self.space() < len(self.text):
             if self.has("/dts-v1/"):
                 self.want(";")
             elif self.has("/plugin/"):
@@ -89,7 +110,7 @@ class Source:
                 self.top_node()
         return self.finished()
 
-    def top_node(self):
+    def top_node(self) -> None:
         """The root, or a node that is named by a reference."""
         while label := self.take(LABEL):
             self.labels[label[1]] = self.root
@@ -101,7 +122,7 @@ class Source:
         else:
             raise self.fault("a node")
 
-    def referred(self, label: str, path: str) -> Node:
+    def referred(self, label: Optional[str], path: Optional[str]) -> Node:
         """The node of a label or a path."""
         node = self.labels.get(label) if label else self.root
         for part in (path or "").strip("/").split("/"):
@@ -110,7 +131,7 @@ class Source:
             raise BadUse(f"{self.name}: the device tree has no node '{label or path}'")
         return node
 
-    def body(self, node: Node):
+    def body(self, node: Node) -> None:
         """The properties and nodes between braces."""
         self.want("{")
         while not self.has("}"):
@@ -122,15 +143,16 @@ class Source:
                 self.member(node)
         self.want(";")
 
-    def delete(self, members: dict):
+    def delete(self, members: dict[str, Member]) -> None:
         """Deletes a member by its name."""
         name = self.take(NAME)
         if not name:
             raise self.fault("a name")
-        members.pop(name[0], None)
+        if name[0] in members:
+            del members[name[0]]
         self.want(";")
 
-    def member(self, node: Node):
+    def member(self, node: Node) -> None:
         """A property or a node."""
         self.has("/omit-if-no-ref/")
         labels = []
@@ -151,7 +173,7 @@ class Source:
 
     def values(self, node: Node, name: str) -> bytes:
         """The value of a property."""
-        self.fixes = [fix for fix in self.fixes if fix[:2] != (node, name)]
+        self.fixes = [fix for fix in self.fixes if (fix.node, fix.name) != (node, name)]
         self.unknown.pop((node, name), None)
         value = b""
         while True:
@@ -179,7 +201,7 @@ class Source:
         while not self.has(">"):
             cell = 0
             if found := self.take(REFERENCE):
-                self.fixes.append((node, name, len(value), found[1], found[2]))
+                self.fixes.append(Fix(node, name, len(value), found[1], found[2]))
             elif self.has("("):
                 self.skip_brackets()
                 self.unknown.setdefault((node, name), "(..)")
@@ -190,7 +212,7 @@ class Source:
             value += struct.pack(">I", cell & 0xFFFFFFFF)
         return value
 
-    def skip_brackets(self):
+    def skip_brackets(self) -> None:
         """Goes behind the bracket that closes the one before."""
         depth = 1
         while depth and self.place < len(self.text):

@@ -15,7 +15,8 @@ BEGIN, END, PROPERTY, NOP, LAST = 1, 2, 3, 4, 9
 class Node:
     """A node of a device tree."""
 
-    def __init__(self, name: str, parent: Optional["Node"] = None):
+    def __init__(self, name: str, parent: Optional["Node"] = None) -> None:
+        """A node without properties and nodes below."""
         self.name, self.parent = name, parent
         self.properties: dict[str, bytes] = {}
         self.children: dict[str, Node] = {}
@@ -55,7 +56,8 @@ class Reference(NamedTuple):
 class Tree:
     """A device tree: its nodes by their phandles."""
 
-    def __init__(self, root: Node):
+    def __init__(self, root: Node) -> None:
+        """The tree of a root."""
         self.root = root
         self.unknown: dict[tuple[str, str], str] = {}  # names in cells that aren't known, by path and property
         self.handles = {node.cells("phandle")[0]: node for node in root.every() if node.cells("phandle")}
@@ -91,7 +93,9 @@ def text_at(content: bytes, place: int) -> str:
 def nodes_of(content: bytes) -> Node:
     """The root of a blob, or ValueError."""
     structure, strings = word_at(content, 8), word_at(content, 12)
-    place, node, root = structure, None, None
+    place = structure
+    node: Optional[Node] = None
+    root: Optional[Node] = None
     while True:
         token = word_at(content, place)
         place += 4

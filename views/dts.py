@@ -8,7 +8,7 @@ object from its load on, and the answers are the program's.
 import os
 import tempfile
 import textwrap
-from typing import Any, NamedTuple, Optional
+from typing import NamedTuple, Optional
 
 import chip as chips
 import device_source
@@ -212,14 +212,14 @@ def unasked(left: dict[str, list[str]]) -> list[str]:
     return [textwrap.fill(line, 118, initial_indent="  ", subsequent_indent="    ") for line in said]
 
 
-def thing_in_json(thing: Thing, answers: dict[int, Answers]) -> dict[str, Any]:
+def thing_in_json(thing: Thing, answers: dict[int, Answers]) -> dict[str, object]:
     """A thing that a device asks for, and who gets it."""
     to = {names.node_name(it): answers[it].said.get(thing, "no answer") for it in answers}
     may = [names.node_name(it) for it in answers if answers[it].status.get(thing) in GRANTED]
     return {**findings.unit(thing.kind, thing.number), "permitted": may, "answers": to}
 
 
-def in_json(found: Asked, master: int, answers: dict[int, Answers], chip: chips.Chip) -> dict[str, Any]:
+def in_json(found: Asked, master: int, answers: dict[int, Answers], chip: chips.Chip) -> dict[str, object]:
     """All of a report for a program."""
     devices = [{"name": it.name, "asks": [thing_in_json(thing, answers) for thing in it.things]} for it in found.devices]
     left = left_over(found, master, answers, chip)

@@ -19,10 +19,11 @@ class Clause(NamedTuple):
 
     step: int  # the line of the script of which it speaks
     place: str  # where it is written: a file and a line
-    words: tuple
+    words: tuple[str, ...]
 
     @property
     def text(self) -> str:
+        """As it is written."""
         return " ".join(self.words)
 
 

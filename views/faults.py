@@ -35,6 +35,7 @@ class Run:
     """A run of the program that failed: its words as they were given to it, and as the caller wrote them."""
 
     def __init__(self, program: str, words: Sequence[str], written: Sequence[str]) -> None:
+        """A run of the program with these words; `written` are the caller's."""
         self.program, self.words, self.written = program, words, written
         self.files = [(words[k], name_of(written[k]), kind) for k, kind in files_of(words)]
 

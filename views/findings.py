@@ -7,7 +7,7 @@ import base64
 import json
 import os
 import urllib.parse
-from typing import Any, NamedTuple, Optional, Sequence
+from typing import NamedTuple, Optional, Sequence
 
 import names
 
@@ -49,13 +49,13 @@ class Finding(NamedTuple):
         at = f"{self.place}: {self.text}" + f" (word {self.place.word})" * (not self.place.line)
         return f"{at}: {self.message} [{self.check}{', note' * (self.level == NOTE)}]"
 
-    def as_json(self) -> dict[str, Any]:
+    def as_json(self) -> dict[str, object]:
         """The finding with its place as keys and values."""
         return {"check": self.check, "level": self.level, **in_place(self.place), "text": self.text, "message": self.message}
 
-    def as_result(self) -> dict[str, Any]:
+    def as_result(self) -> dict[str, object]:
         """The finding as a result of SARIF."""
-        result: dict[str, Any] = {"ruleId": self.check, "level": self.level, "message": {"text": f"{self.text}: {self.message}"}}
+        result: dict[str, object] = {"ruleId": self.check, "level": self.level, "message": {"text": f"{self.text}: {self.message}"}}
         result["locations"] = [location_of(self.place)]
         if self.related:
             result["relatedLocations"] = [{"id": k, **location_of(place), "message": {"text": text}} for k, (place, text) in enumerate(self.related, 1)]
@@ -64,12 +64,12 @@ class Finding(NamedTuple):
         return result
 
 
-def in_place(place: Place) -> dict[str, Any]:
+def in_place(place: Place) -> dict[str, object]:
     """A place as keys and values."""
     return {key: value for key, value in place._asdict().items() if value is not None}
 
 
-def unit(kind: str, number: int) -> dict[str, Any]:
+def unit(kind: str, number: int) -> dict[str, object]:
     """A unit, a reset line or a clock as keys and values."""
     name_of = {"line": names.line_name, "clock": names.clock_name}.get(kind, names.node_name)
     return {"kind": kind, "number": number, "name": name_of(number)}
@@ -85,7 +85,7 @@ def region_of(place: Place, length: int = 4) -> dict[str, int]:
     return {"startLine": place.line} if place.line else {"byteOffset": 4 * (place.word or 0), "byteLength": length}
 
 
-def location_of(place: Place) -> dict[str, Any]:
+def location_of(place: Place) -> dict[str, object]:
     """A place as a location of SARIF; it is the file if nothing more is known."""
     where = {"artifactLocation": artifact_of(place.file)}
     if place.line or place.word is not None:
@@ -93,7 +93,7 @@ def location_of(place: Place) -> dict[str, Any]:
     return {"physicalLocation": where}
 
 
-def fix_of(change: Change) -> dict[str, Any]:
+def fix_of(change: Change) -> dict[str, object]:
     """A change as a fix of SARIF."""
     content = base64.b64encode(change.content).decode("ascii")
     replacement = {"deletedRegion": region_of(change.place, len(change.content)), "insertedContent": {"binary": content}}
@@ -106,12 +106,12 @@ def in_lines(found: Sequence[Finding]) -> str:
     return "".join(f"{finding}\n" for finding in found)
 
 
-def in_json(value: dict[str, Any]) -> str:
+def in_json(value: dict[str, object]) -> str:
     """An object as JSON, which a robot reads."""
     return json.dumps(value, indent=1) + "\n"
 
 
-def whole(view: str, status: int, **parts: Any) -> str:
+def whole(view: str, status: int, **parts: object) -> str:
     """The JSON of a view: its first word, the exit that it ends with, and its own parts."""
     return in_json({"view": view, "exit": status, **parts})
 

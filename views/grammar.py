@@ -15,6 +15,7 @@ class Line(NamedTuple):
 
 
 def _line(*kinds: str) -> Line:
+    """A line that takes a word of each of these kinds."""
     return Line(kinds, len(kinds), len(kinds))
 
 
@@ -55,6 +56,8 @@ RECORDS = {
 
 
 class Section(NamedTuple):
+    """A section of an object."""
+
     name: str
     records: tuple[str, ...]  # their kinds; of two kinds the first one begins a group of the second
 

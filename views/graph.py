@@ -7,12 +7,11 @@ Masters beyond the reach are dotted, and what else is beyond isn't drawn.
 """
 
 import sys
-from typing import Any, Callable, Iterator, NamedTuple, Optional, Sequence
+from typing import Callable, Iterator, NamedTuple, Optional, Sequence
 
 import annotate
 import chip as chips
 import findings
-import lines as texts
 import names
 import objects
 import options
@@ -126,7 +125,7 @@ def box(numbers: Sequence[int], style: str) -> str:
 def processors_of(graph: Graph, domain: int) -> dict[int, int]:
     """The processors directly below a power node whose master is in the reach, each with it."""
     chip = graph.board.chip
-    found = {}
+    found: dict[int, int] = {}
     for master in graph.masters:
         for proc in chip.owners[master]:
             if chip.nodes[proc].parent == domain:
@@ -163,7 +162,8 @@ def line_boxes(graph: Graph) -> Iterator[str]:
 def arrow_lines(graph: Graph) -> Iterator[str]:
     """The arrows from masters to their slaves, reset lines and processors."""
     domains = [number for number in graph.board.chip.nodes if graph.board.chip.is_kind(number, "power")]
-    ends = [("slaves", domain, arrows) for domain in domains for arrows in groups_of(graph, permits.SLAVE, domain)]
+    ends: list[tuple[str, Optional[int], tuple[Arrow, ...]]] = []
+    ends += [("slaves", domain, arrows) for domain in domains for arrows in groups_of(graph, permits.SLAVE, domain)]
     ends += [("lines", None, arrows) for arrows in groups_of(graph, permits.LINE, None)]
     for kind, domain, arrows in ends:
         for arrow in arrows:
@@ -203,7 +203,7 @@ def lines_of(graph: Graph, start: int, has_all: bool) -> Iterator[str]:
     yield "}"
 
 
-def arrows_in_json(graph: Graph) -> Iterator[dict[str, Any]]:
+def arrows_in_json(graph: Graph) -> Iterator[dict[str, object]]:
     """The arrows, each from a master to what it leads to, can change, or has."""
     ends: list[tuple[str, int, Sequence[Arrow]]] = [(permits.MASTER, number, arrows) for number, arrows in graph.masters.items()]
     ends += [(kind, number, arrows) for (kind, number), arrows in graph.units.items()]
@@ -215,7 +215,7 @@ def arrows_in_json(graph: Graph) -> Iterator[dict[str, Any]]:
             yield {"from": names.node_name(master), "to": findings.unit("processor", proc), "why": ["runs on"]}
 
 
-def in_json(graph: Graph, start: int) -> dict[str, Any]:
+def in_json(graph: Graph, start: int) -> dict[str, object]:
     """The graph as keys and values: the masters, the frames, and the arrows."""
     chip = graph.board.chip
     masters = [{**findings.unit(permits.MASTER, node), "in_reach": node in graph.masters} for node in permits.masters(graph.board)]
@@ -238,7 +238,7 @@ def main(words: Sequence[str]) -> int:
     node = annotate.node_in_numbers(word)
     # (it judges the node, and what it says of a fault is handed on)
     run(["reach", obj, node, *board.chip.words()], ["reach", obj, word, *board.chip.words()])
-    start = texts.number_of(node)
+    start = annotate.number_of_node(node)
     members = permits.checked_reach(obj, board, start)
     graph = graph_of(board, members, has_all)
     if "--json" in given:

@@ -7,7 +7,7 @@ master that isn't the first one, the wait of a processor that has suspended, the
 
 import os
 import re
-from typing import NamedTuple, Optional
+from typing import NamedTuple, Optional, Union
 
 import faults
 import lines
@@ -37,16 +37,16 @@ class Found(NamedTuple):
 
 def numbered(entry: logs.Entry) -> str:
     """The line of a script that an entry is, in numbers where it is a message."""
-    return entry.line or " ".join(map(written, ["ipi", entry.master, entry.call, *entry.words]))
+    return entry.line or " ".join(["ipi", *map(written, (entry.master, entry.call, *entry.words))])
 
 
-def fits(entry):
-    """Raises Unreadable where an entry makes no line of a script."""
+def fits(entry: Union[logs.Entry, logs.Left]) -> None:
+    """Raises Unreadable if an entry makes no line of a script."""
     if isinstance(entry, logs.Entry):
         try:
             line = to_numbers.line_in_numbers(numbered(entry), {})
-        except to_numbers.Unknown as fault:
-            raise logs.Unreadable(str(fault)) from None
+        except to_numbers.Unknown as unknown:
+            raise logs.Unreadable(str(unknown)) from None
         fault = lines.script_fault(line.encode("utf-8"))
         if fault:
             raise logs.Unreadable(fault[1])
@@ -55,24 +55,28 @@ def fits(entry):
 class Log:
     """What a log has: its entries, the calls that no script can have, and what looks like a call and isn't read."""
 
-    def __init__(self, content: bytes):
-        self.found, self.left, self.unreadable, self.passed = [], {}, [], 0
-        self.open = {}  # of a task the place of its message that has no answer yet
-        self.state = {"open": self.opened, "complete": self.complete}
+    def __init__(self, content: bytes) -> None:
+        """What the log of this content has."""
+        self.found: list[Found] = []
+        self.left: dict[str, int] = {}  # by why the script can't have them, how many calls
+        self.unreadable: list[tuple[int, str]] = []  # lines, and why they can't be read
+        self.passed = 0  # how many lines have no call
+        self.open: dict[str, int] = {}  # of a task the place of its message that has no answer yet
+        self.state = logs.State(self.opened, self.complete)
         for place, line in enumerate(content.decode("utf-8", "replace").replace("\r", "").split("\n"), 1):
-            self.state["place"] = place
+            self.state.place = place
             self.read(place, COLOURS.sub("", line))
-        self.unreadable += [(place, "which processor goes off isn't printed") for place in self.state.get("off", ())]
+        self.unreadable += [(place, "which processor goes off isn't printed") for place in self.state.off]
 
-    def opened(self, task: str):
+    def opened(self, task: str) -> None:
         """A task has begun a call: its message comes next, if the script can have it."""
         self.open[task] = len(self.found)
 
-    def close(self, before: dict):
+    def close(self, before: dict[str, int]) -> None:
         """A call that was begun since then has no message here, so its return completes none."""
         self.open = {task: at for task, at in self.open.items() if before.get(task) == at}
 
-    def complete(self, task: str, value: int):
+    def complete(self, task: str, value: int) -> None:
         """The call that a task has begun returns."""
         place = self.open.pop(task, None)
         if place is not None:
@@ -80,9 +84,8 @@ class Log:
             if logs.is_answered(found.entry.call, found.entry.words):
                 answer = logs.answer_of_return(value & 0xFFFFFFFFFFFFFFFF, found.entry.call)
                 self.found[place] = found._replace(entry=found.entry._replace(answer=answer))
-        return []
 
-    def read(self, place: int, line: str):
+    def read(self, place: int, line: str) -> None:
         """Takes a line."""
         if not line.strip() or line.lstrip().startswith("#"):
             return
@@ -116,23 +119,25 @@ def owner_of(proc: Optional[int]) -> Optional[int]:
 class Script:
     """The lines of a script, and which processors run in it as far as the log says."""
 
-    def __init__(self):
-        self.lines, self.waits_told = [], False
+    def __init__(self) -> None:
+        """A script without lines, at whose begin the first processor runs."""
+        self.lines: list[str] = []
+        self.waits_told = False  # whether the log says when a processor waits
         self.started = {logs.APU: {names.MASTERS[logs.APU][0]}}  # of a master the processors that run
-        self.suspended = {}  # of a master the processor that has suspended, and doesn't wait yet
+        self.suspended: dict[int, int] = {}  # of a master the processor that has suspended, and doesn't wait yet
 
-    def add(self, line: str, comment: str):
+    def add(self, line: str, comment: str) -> None:
         """A line with a comment behind it."""
         self.lines.append(f"{line:<48}  # {comment}" if comment else line)
 
-    def wait(self, master: int):
+    def wait(self, master: int) -> None:
         """The processor of a master that has suspended waits from here on."""
         proc = self.suspended.pop(master, None)
         if proc is not None:
             self.add(f"wfi {names.node_name(proc)}", "the log doesn't say when it waits")
             self.started[master].discard(proc)
 
-    def wake(self, master: int):
+    def wake(self, master: int) -> None:
         """A master that sends a message runs."""
         if self.started.get(master):
             return
@@ -142,14 +147,14 @@ class Script:
         self.add(f"{word} {names.node_name(proc)}" + " 0" * (not known), f"the log doesn't say {said}")
         self.started.setdefault(master, set()).add(proc)
 
-    def before(self, entry: logs.Entry):
+    def before(self, entry: logs.Entry) -> None:
         """What has to happen before a message."""
         for master in list(self.suspended):
             if master != entry.master or entry.call not in (SET_REQUIREMENT, RELEASE_NODE):
                 self.wait(master)
         self.wake(entry.master)
 
-    def after(self, entry: logs.Entry):
+    def after(self, entry: logs.Entry) -> None:
         """What a message does to processors, if it is accepted."""
         if not entry.answer.startswith("SUCCESS") and entry.answer:
             return
@@ -159,7 +164,7 @@ class Script:
         elif entry.call == REQUEST_WAKEUP and owner:
             self.started.setdefault(owner, set()).add(entry.words[0])
 
-    def take(self, found: Found):
+    def take(self, found: Found) -> None:
         """Adds an entry."""
         entry, note = found.entry, f"log line {found.place}" + f", {found.time}" * bool(found.time)
         if entry.line:
@@ -168,7 +173,8 @@ class Script:
             self.suspended.clear()
             if word in ("boot", "gic"):
                 number = names.number_of("node", proc) or lines.number_of(proc)
-                self.started.setdefault(owner_of(number) or logs.APU, set()).add(number)
+                if number is not None:
+                    self.started.setdefault(owner_of(number) or logs.APU, set()).add(number)
             self.add(entry.line, note)
             return
         self.before(entry)
@@ -176,9 +182,9 @@ class Script:
         self.after(entry)
 
 
-def written(word) -> str:
-    """A word of a line, a large number as an address."""
-    return hex(word) if isinstance(word, int) and word > 0xFFFF else str(word)
+def written(word: int) -> str:
+    """A word of a message, a large number as an address."""
+    return hex(word) if word > 0xFFFF else str(word)
 
 
 def in_ascii(text: str) -> str:
@@ -186,7 +192,7 @@ def in_ascii(text: str) -> str:
     return "".join(it if " " <= it <= "~" else "?" for it in text)[:80]
 
 
-def made(log: Log, name: str) -> list:
+def made(log: Log, name: str) -> list[str]:
     """The lines of the script of a log."""
     script = Script()
     script.waits_told = any(found.entry.line.startswith("wfi") for found in log.found)
@@ -197,13 +203,13 @@ def made(log: Log, name: str) -> list:
     return [f"# The calls of {in_ascii(name)}, with the answers that it has.", *script.lines]
 
 
-def report(log: Log, name: str):
+def report(log: Log, name: str) -> None:
     """Says what isn't in the script."""
     calls = sum(not found.entry.line for found in log.found)
     tell(f"{name}: {count(calls, 'call')}; {count(log.passed, 'line')} passed over that {'has' if log.passed == 1 else 'have'} none")
     for why, times in log.left.items():
         tell(f"{name}: {count(times, 'call')} left out: {why}")
-    reasons = {}
+    reasons: dict[str, list[int]] = {}
     for place, why in log.unreadable:
         reasons.setdefault(why, []).append(place)
     for why, places in reasons.items():
@@ -211,7 +217,7 @@ def report(log: Log, name: str):
         tell(f"{name}:{places[0]}: a call that isn't read: {why}{more}")
 
 
-def main(words: list) -> int:
+def main(words: list[str]) -> int:
     """`import LOG`."""
     if len(words) != 1:
         raise BadUse("import takes one LOG, a file with what a board or its firmware has printed")

@@ -6,7 +6,8 @@ docs/LOGS.md names the source and the version of each.
 """
 
 import re
-from typing import NamedTuple, Optional
+from dataclasses import dataclass, field
+from typing import Callable, NamedTuple, Optional, Sequence, Union
 
 import lines
 import names
@@ -35,8 +36,8 @@ class Entry(NamedTuple):
     """A message that a log has, or a line of a script."""
 
     master: int = APU
-    call: Optional[int] = None
-    words: tuple = ()
+    call: int = 0  # of an entry that is no message 0
+    words: tuple[int, ...] = ()
     answer: str = ""  # the words of an expectation, or empty if the log doesn't say
     line: str = ""  # of an entry that is no message: the line of the script
 
@@ -45,6 +46,21 @@ class Left(NamedTuple):
     """A call that a script can't have, and why."""
 
     why: str
+
+
+# What a reader gives of a line: what it means, or None if the line isn't of its format.
+Read = Optional[Sequence[Union[Entry, Left]]]
+
+
+@dataclass
+class State:
+    """What is kept from line to line of a log."""
+
+    opened: Callable[[str], None]  # a task has begun a call
+    complete: Callable[[str, int], None]  # the call of a task has returned this
+    place: int = 0  # the line
+    off: list[int] = field(default_factory=list)  # the lines in which a processor went off that isn't named yet
+    heading: Sequence[str] = ()  # the names of the columns of a table, if they have been said
 
 
 def answer_of_status(status: int, call: int) -> str:
@@ -61,13 +77,13 @@ def answer_of_return(value: int, call: int) -> str:
     return ERRORS.get(value, "-EINVAL") if value < 0 else answer_of_status(value, call)
 
 
-def is_answered(call: int, words: tuple) -> bool:
+def is_answered(call: int, words: Sequence[int]) -> bool:
     """Whether a message asks for an answer: of those that say so, the ones with BLOCKING."""
     arguments = names.CALLS[call].arguments or ()
     return "ack" not in arguments or words[arguments.index("ack")] == BLOCKING
 
 
-def message(master: int, call: int, words: tuple, answer: str = ""):
+def message(master: int, call: int, words: Sequence[int], answer: str = "") -> Union[Entry, Left]:
     """The entry of a message, or why the script can't have it."""
     known = names.CALLS.get(call)
     if call >= FIRMWARE_CALLS:
@@ -80,8 +96,7 @@ def message(master: int, call: int, words: tuple, answer: str = ""):
         if words[0] not in published.OURS:
             return Left(f"this core hasn't the clock {published.name_of(words[0])}")
         words = (published.OURS[words[0]],)
-    words = tuple(words[: len(known.arguments)])
-    return Entry(master, call, words, answer)
+    return Entry(master, call, tuple(words[: len(known.arguments)]), answer)
 
 
 # Linux: what its drivers print (drivers/soc/xilinx/zynqmp_pm_domains.c, drivers/firmware/xilinx/zynqmp.c,
@@ -96,7 +111,7 @@ CLOCK_OTHER = re.compile(r"((?:get|set) divider|getparent|set parent) failed for
 ON_QOS = 100
 
 
-def read_requirement(found):
+def read_requirement(found: re.Match[str]) -> Union[Entry, Left]:
     """A domain is powered on with ACCESS and an answer; off with less, and without one."""
     capabilities, node = int(found[2], 16), int(found[3])
     on = capabilities == 1
@@ -105,7 +120,7 @@ def read_requirement(found):
     return message(APU, 15, words, answer)
 
 
-def read_clock(found):
+def read_clock(found: re.Match[str]) -> Union[Entry, Left]:
     """A clock's call that failed."""
     if found[1]:
         call = 36 if found[1] == "enable" else 37
@@ -116,7 +131,7 @@ def read_clock(found):
     return message(APU, 38, (clock,), answer_of_return(int(found[6]), 38))
 
 
-def read_kernel(line: str, _state: dict):
+def read_kernel(line: str, _state: State) -> Read:
     """The prints of the kernel's drivers."""
     if found := REQUIREMENT.search(line):
         return [read_requirement(found)]
@@ -141,17 +156,17 @@ KILLED = re.compile(r"psci: CPU(\d+) killed")  # (the kernel's: arch/arm64/kerne
 OFF_STATE = 2
 
 
-def sleeps(proc: int, state: int) -> list:
+def sleeps(proc: int, state: int) -> list[Union[Entry, Left]]:
     """A processor suspends, and waits."""
     return [message(APU, 7, (proc, ANY_LATENCY, state, 0, 0)), Entry(line=f"wfi {names.node_name(proc)}")]
 
 
-def read_power_call(found, state: dict):
+def read_power_call(found: re.Match[str], state: State) -> Read:
     """A processor that goes off or sleeps. Which one isn't printed: one that goes off is named by the kernel's print
     that follows, and the one that suspends all is APU_0, since Linux takes the others off before."""
     what, level, value = found[1], int(found[2]), int(found[3], 16)
     if what == "off" and level == 0:
-        state["off"] = [*state.get("off", []), state["place"]]
+        state.off.append(state.place)
     if what == "off" or level == 0:
         return []
     if value < OFF_STATE:
@@ -170,13 +185,13 @@ def processor_at(place: int) -> int:
     return names.MASTERS[APU][place]
 
 
-def read_firmware(line: str, state: dict):
+def read_firmware(line: str, state: State) -> Read:
     """The prints of TF-A. Its entry for the started processor isn't printed, and is 0 here."""
     if found := POWER_ON.search(line):
         node = processor_at(int(found[1], 16) & 0xFF)
         return [message(APU, 3, (node,)), message(APU, 10, (node, 1, 0, BLOCKING))]
     if found := KILLED.search(line):
-        del state.get("off", [])[:1]
+        del state.off[:1]
         return sleeps(processor_at(int(found[1])), 0)
     if found := POWER.search(line):
         return read_power_call(found, state)
@@ -189,7 +204,7 @@ PROBE = re.compile(r"^\s*(?P<task>\S.*?-\d+)\s+\[\d+\]\s+(?:\S+\s+)?\d+\.\d+:\s+
 TRACED, TRACED_WORDS = "zynqmp_pm_invoke_fn", 4
 
 
-def numbers_in(text: str) -> list:
+def numbers_in(text: str) -> list[int]:
     """The values of `name=value` pairs, in their order."""
     return [number(value) for value in re.findall(r"\w+=(-?\w+)", text)]
 
@@ -202,7 +217,7 @@ def number(word: str) -> int:
     return -value if word.startswith("-") else value
 
 
-def read_probe(line: str, state: dict):
+def read_probe(line: str, state: State) -> Read:
     """A probe's event: at the function's begin its words, at its end what it returned. The end completes the message
     of the same task."""
     found = PROBE.match(line)
@@ -210,10 +225,12 @@ def read_probe(line: str, state: dict):
         return None
     values = numbers_in(found["words"])
     if "<-" in found["where"]:
-        return [] if not values else state["complete"](found["task"], values[0])
-    arguments = getattr(names.CALLS.get(values[0] & 0xFFFF if values else 0), "arguments", None) or ()
+        if values:
+            state.complete(found["task"], values[0])
+        return []
+    arguments = names.arguments_of(names.CALLS, values[0] & 0xFFFF if values else 0)
     if not values or len(values) - 1 < min(len(arguments), TRACED_WORDS):
         raise Unreadable(f"an event of {TRACED} has the call and {TRACED_WORDS} words, as in id=13 a0=33 a1=1 a2=0 a3=2")
-    state["open"](found["task"])
+    state.opened(found["task"])
     words = [word & 0xFFFFFFFF for word in values[1:]]
     return [message(APU, values[0] & 0xFFFF, (*words, *[0] * (len(arguments) - len(words))))]

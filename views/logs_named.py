@@ -3,12 +3,13 @@ plain table of time, master, words and answer.
 """
 
 import re
+from typing import Optional, Sequence, Union
 
 import grammar
 import lines
 import names
 import to_numbers
-from logs import APU, Entry, Unreadable, answer_of_return, answer_of_status, message, number
+from logs import APU, Entry, Left, Read, State, Unreadable, answer_of_return, answer_of_status, message, number
 
 PREFIXES = ("zynqmp_pm_", "xpm_", "eemi_", "pm_", "pm")
 
@@ -26,7 +27,7 @@ MASTERS = {"RPU0": 7, "RPU1": 8, "R50": 7, "R51": 8, "RPU_LS": 6}
 SELF_SUSPEND, REQUEST_WAKEUP = 7, 10
 
 
-def master_of(word: str):
+def master_of(word: str) -> Optional[int]:
     """The master that a word names, or None."""
     value = names.number_of("node", word)
     value = MASTERS.get(word.upper()) if value is None else value
@@ -34,7 +35,7 @@ def master_of(word: str):
     return value if value in names.MASTERS else None
 
 
-def call_of(name: str):
+def call_of(name: str) -> Optional[int]:
     """The number of the call that a function's name says, or None."""
     low = name.lower()
     for prefix in PREFIXES:
@@ -55,11 +56,12 @@ def value_in(kind: str, word: str) -> int:
         raise Unreadable(str(fault)) from None
 
 
-def halves(address: int) -> list:
+def halves(address: int) -> list[int]:
+    """An address as a message has it: its low word, and its high one."""
     return [address & 0xFFFFFFFF, address >> 32]
 
 
-def with_address(name: str, call: int, words: list) -> list:
+def with_address(name: str, call: int, words: list[int]) -> list[int]:
     """The words of a call of which a function takes the address whole, as TF-A's and the kernel's do."""
     if call == SELF_SUSPEND and len(words) == 4:
         return [*words[:3], *halves(words[3])]
@@ -70,11 +72,11 @@ def with_address(name: str, call: int, words: list) -> list:
     return words
 
 
-def read_named(line: str, _state: dict):
+def read_named(line: str, _state: State) -> Read:
     """A call by its name, with its words in brackets. The kernel's functions (zynqmp_pm_) return error numbers."""
     found = CALLED.search(line)
     call = call_of(found["name"]) if found else None
-    if call is None:
+    if found is None or call is None:
         return None
     name, arguments = found["name"], names.CALLS[call].arguments
     if arguments is None:
@@ -100,9 +102,9 @@ TIME = re.compile(r"-|\d+(\.\d+)?(us|ms|s)?|\d+:\d\d(:\d\d)?([.,]\d+)?")
 LINES = [word for word in grammar.SCRIPT if word not in ("ipi", "object")]
 
 
-def answer_of(words: list) -> str:
+def answer_of(words: Sequence[str]) -> str:
     """The expectation of an answer in a table: a status, by name or number, and words; `none`; or nothing."""
-    if not words or words == ["-"]:
+    if not words or list(words) == ["-"]:
         return ""
     if words[0].lower() == "none":
         return "none"
@@ -111,7 +113,7 @@ def answer_of(words: list) -> str:
     return " ".join([answer_of_status(status, 0), *(str(number(word)) for word in words[1:])])
 
 
-def table_call(master: str, call: str, words: list, answer: list):
+def table_call(master: str, call: str, words: Sequence[str], answer: Sequence[str]) -> Union[Entry, Left]:
     """The entry of a row of the table."""
     sender = master_of(master)
     if sender is None:
@@ -120,13 +122,13 @@ def table_call(master: str, call: str, words: list, answer: list):
     value = call_of(call) if value is None else value
     if value is None:
         raise Unreadable(f"no call is named {call}")
-    arguments = getattr(names.CALLS.get(value), "arguments", None)
-    kinds = (arguments or ()) + ("",) * 8
+    arguments = names.arguments_of(names.CALLS, value)
+    kinds = arguments + ("",) * 8
     numbers = [value_in(kind, word) for kind, word in zip(kinds, words)]
-    return message(sender, value, tuple(numbers + [0] * (len(arguments or ()) - len(numbers))), answer_of(answer))
+    return message(sender, value, tuple(numbers + [0] * (len(arguments) - len(numbers))), answer_of(answer))
 
 
-def with_heading(line: str, heading: list):
+def with_heading(line: str, heading: Sequence[str]) -> Read:
     """A row of a table whose columns have names."""
     row = dict(zip(heading, (word.strip() for word in line.split(","))))
     words = [row[name] for name in heading if re.fullmatch(r"(a|arg|word)\d+", name) and row.get(name)]
@@ -134,21 +136,21 @@ def with_heading(line: str, heading: list):
     return [table_call(row.get("master", ""), row.get("call", ""), words, answer)]
 
 
-def heading_of(line: str):
+def heading_of(line: str) -> Optional[list[str]]:
     """The names of the columns, if a line has them."""
     columns = [word.strip().lower() for word in line.split(",")]
     columns = ["call" if word == "api" else word for word in columns]
     return columns if {"master", "call"} <= set(columns) else None
 
 
-def read_table(line: str, state: dict):
+def read_table(line: str, state: State) -> Read:
     """A row of a plain table."""
     columns = heading_of(line)
     if columns:
-        state["heading"] = columns
+        state.heading = columns
         return []
-    if state.get("heading") and line.count(",") + 1 >= 3:
-        return with_heading(line, state["heading"])
+    if state.heading and line.count(",") + 1 >= 3:
+        return with_heading(line, state.heading)
     body, arrow, answer = line.partition("->")
     words = re.split(r"[\s,;]+", body.strip(" \t,;"))
     if len(words) < 3 or not TIME.fullmatch(words[0]):

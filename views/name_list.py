@@ -4,7 +4,7 @@
 """
 
 import textwrap
-from typing import Any, Iterator, NamedTuple
+from typing import Iterator, NamedTuple
 
 import findings
 import names
@@ -25,6 +25,7 @@ class Row(NamedTuple):
     more: str  # with the comma or the colon before it
 
     def __str__(self) -> str:
+        """The line of the name."""
         return f"{self.kind} {written(self.kind, self.number)} {self.name}{self.more}"
 
 
@@ -50,7 +51,7 @@ def lines() -> Iterator[str]:
     return map(str, rows())
 
 
-def in_json() -> list[dict[str, Any]]:
+def in_json() -> list[dict[str, object]]:
     """Each name as keys and values."""
     return [{**row._asdict(), "more": row.more.lstrip(",: ")} for row in rows()]
 

@@ -42,11 +42,13 @@ class Record:
         return self.offset // WORD
 
     def __getattr__(self, name: str) -> int:
+        """A word by what it is called in the text of an object."""
         if name in FIELDS[self.kind]:
             return self.words[FIELDS[self.kind].index(name)]
         raise AttributeError(f"a {self.kind} has no {name}")
 
     def __str__(self) -> str:
+        """As a line of the text of an object."""
         return " ".join([self.kind, *map(str, self.words)])
 
 
@@ -61,6 +63,8 @@ class Section:
 
 @dataclass(frozen=True)
 class Object:
+    """A configuration object."""
+
     extra: tuple[int, ...]  # the words of the header after the type
     sections: tuple[Section, ...]
 
@@ -78,6 +82,7 @@ class Object:
 
 
 def _grouped(records: Sequence[Record]) -> list[tuple[Record, list[Record]]]:
+    """Groups with the records behind each."""
     groups: list[tuple[Record, list[Record]]] = []
     for record in records:
         if record.kind == "group":
@@ -91,6 +96,7 @@ class Fault(program.BadUse):
     """The first fault of bytes that are no object, as the program tells it: its cause, and the word where it is."""
 
     def __init__(self, cause: int, place: int, data: bytes) -> None:
+        """The fault of these bytes."""
         super().__init__(f"{object_faults.object_sentence(cause, place, data)} (fault object {cause} {place})")
         self.cause, self.place = cause, place
 
@@ -99,6 +105,7 @@ class _Reader:
     """Takes words from the front, and tries each rule as soon as its word is there."""
 
     def __init__(self, data: bytes) -> None:
+        """A reader at the begin of these bytes, of which the length is judged."""
         self.data, self.place = data, 0
         if len(data) > LONGEST:
             raise self.fault(2, LONGEST // WORD)
@@ -107,19 +114,23 @@ class _Reader:
         self.words = struct.unpack(f"<{len(data) // WORD}I", data)
 
     def fault(self, cause: int, place: int) -> Fault:
+        """A fault of the bytes, by its cause and its word."""
         return Fault(cause, place, self.data)
 
     @property
     def offset(self) -> int:
+        """Where the next word is, in bytes."""
         return WORD * self.place
 
     def word(self) -> int:
+        """Takes a word."""
         if self.place == len(self.words):
             raise self.fault(3, self.place)
         self.place += 1
         return self.words[self.place - 1]
 
     def take(self, count: int) -> tuple[int, ...]:
+        """Takes as many words."""
         return tuple(self.word() for _ in range(count))
 
     def judge(self, holds: bool, cause: int) -> None:
@@ -214,6 +225,7 @@ def decode(data: bytes) -> Object:
 
 
 def _section_words(section: Section) -> list[int]:
+    """The words of a section, with its identifier and its counts."""
     kind = grammar.SECTIONS[section.identifier].kind
     words = [section.identifier]
     if section.identifier == PREALLOC:

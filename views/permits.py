@@ -37,6 +37,7 @@ class Member(NamedTuple):
     path: tuple[int, ...]
 
     def __str__(self) -> str:
+        """As the program writes it."""
         return " ".join(map(str, [self.kind, self.number, self.why, *self.path]))
 
 
@@ -87,6 +88,7 @@ def _forced(board: Board, number: int, master: int) -> str:
 
 
 def _forces(board: Board, a: int, b: int) -> Iterator[Reason]:
+    """The power records by which a master forces something of another down."""
     bit = masters(board)[a].mask
     for record in board.found.records("power"):
         if record.mask & bit and record.node in board.chip.nodes:
@@ -130,6 +132,7 @@ def leads(board: Board, a: int, b: int) -> list[Reason]:
 
 
 def _brings_slave(board: Board, a: int, slave: int) -> Iterator[Reason]:
+    """Why a slave is in the reach of a master: it may use it, force what is above it down, or reset it."""
     bit = masters(board)[a].mask
     for record in board.found.records("slave"):
         if record.node == slave and record.mask & bit:
@@ -141,6 +144,7 @@ def _brings_slave(board: Board, a: int, slave: int) -> Iterator[Reason]:
 
 
 def _brings_power(board: Board, a: int, power: int) -> Iterator[Reason]:
+    """Why a power node is in the reach of a master: it is above a processor of it, or above a slave that is in the reach."""
     chip = board.chip
     for proc in chip.owners[a]:
         if chip.is_above(power, proc):
@@ -154,6 +158,7 @@ def _brings_power(board: Board, a: int, power: int) -> Iterator[Reason]:
 
 
 def _brings_line(board: Board, a: int, line: int) -> Iterator[Reason]:
+    """The records by which a master may use a reset line of the chip."""
     for record in board.found.records("reset"):
         if record.line == line and line in board.chip.lines and record.mask & masters(board)[a].mask:
             yield Reason("reset", record, f"its mask has the bit of {names.node_name(a)}")
@@ -167,7 +172,9 @@ def brings(board: Board, a: int, kind: str, number: int) -> list[Reason]:
 
 def paths(board: Board, start: int) -> list[tuple[int, ...]]:
     """All paths of masters from one, none of them twice in a path: shorter ones first, then by their places."""
-    order, shown, ahead = list(masters(board)), [], [(start,)]
+    order = list(masters(board))
+    shown: list[tuple[int, ...]] = []
+    ahead: list[tuple[int, ...]] = [(start,)]
     led = {(a, b) for a in order for b in order if a != b and leads(board, a, b)}
     while ahead:
         shown += ahead
@@ -194,15 +201,15 @@ def units(chip: Chip) -> list[tuple[str, int]]:
 
 def reach(board: Board, start: int) -> list[Member]:
     """The reach of a master on the chip, each member with its first path and first reason, in the order of its text."""
-    ways, found = paths(board, start), []
+    first: dict[int, tuple[int, ...]] = {}
+    for way in paths(board, start):
+        first.setdefault(way[-1], way)
+    found = []
     for master in masters(board):
-        way = next((way for way in ways if way[-1] == master), None)
-        if way:
+        if master in first:
+            way = first[master]
             why = leads(board, *way[-2:])[0].why if len(way) > 1 else "self"
             found.append(Member(MASTER, master, why, way))
-    first = {}
-    for way in ways:
-        first.setdefault(way[-1], way)
     for kind, number in units(board.chip):
         for way in first.values():
             reasons = brings(board, way[-1], kind, number)

@@ -9,7 +9,7 @@ import bisect
 import sys
 import tempfile
 from html import escape
-from typing import Any, Iterator, NamedTuple, Optional, Sequence
+from typing import Iterator, NamedTuple, Optional, Sequence
 
 import chip as chips
 import findings
@@ -279,7 +279,7 @@ def drawn(dump: Dump) -> Iterator[str]:
     yield "</svg>"
 
 
-def in_row(chip: chips.Chip, row: Row, units: dict[tuple[tuple[str, ...], str], Unit], end: int) -> dict[str, Any]:
+def in_row(chip: chips.Chip, row: Row, units: dict[tuple[tuple[str, ...], str], Unit], end: int) -> dict[str, object]:
     """A row as keys and values."""
     unit = units[row.signal.scope, row.signal.name]
     spans = [{"from": begin, "until": until, "state": row.words[value]} for begin, until, value in row.spans(end)]
@@ -287,7 +287,7 @@ def in_row(chip: chips.Chip, row: Row, units: dict[tuple[tuple[str, ...], str], 
     return {**about, "spans": spans, "pulses": row.pulses(), "refused": row.refused()}
 
 
-def in_json(chip: chips.Chip, dump: Dump) -> dict[str, Any]:
+def in_json(chip: chips.Chip, dump: Dump) -> dict[str, object]:
     """What the picture draws, as keys and values: the lines of the script, and each row by these."""
     script = script_of(dump)
     units = {(path, wave_signals.name_of(it.unit)): it.unit for path, those in wave_signals.scopes(chip) for it in those}

@@ -5,7 +5,7 @@ NOT_JUDGED if a record wasn't judged and isn't allowed. With `--repair` it tells
 """
 
 import struct
-from typing import Any, Iterator, Sequence
+from typing import Iterator, Sequence
 
 import breaches
 import chip as chips
@@ -34,7 +34,7 @@ ABOUT = {
 }
 
 
-def in_record(record: objects.Record) -> dict[str, Any]:
+def in_record(record: objects.Record) -> dict[str, object]:
     """A record of an object as keys and values."""
     return {"record": str(record), "word": record.place}
 
@@ -42,20 +42,20 @@ def in_record(record: objects.Record) -> dict[str, Any]:
 # A judgement.
 
 
-def in_rule(rule: rules.Rule, found: Judgement) -> dict[str, Any]:
+def in_rule(rule: rules.Rule, found: Judgement) -> dict[str, object]:
     """A rule, and by whom it is broken."""
     broken = [{"master": names.node_name(it.master), "paths": it.paths()} for it in found.breaches if it.rule == rule]
     return {**findings.in_place(rule.place), "rule": rule.text, "holds": not broken, "broken_by": broken}
 
 
-def in_steps(found: Judgement) -> Iterator[dict[str, Any]]:
+def in_steps(found: Judgement) -> Iterator[dict[str, object]]:
     """The steps of the paths, each with the records that give it."""
     for (master, end), reasons in found.steps.reasons.items():
         given = [{"why": it.why, **in_record(it.record), "detail": it.detail} for it in reasons]
         yield {"from": names.node_name(master), "to": end, "reasons": given}
 
 
-def in_unjudged(one: breaches.Unjudged, left: Sequence[breaches.Unjudged]) -> dict[str, Any]:
+def in_unjudged(one: breaches.Unjudged, left: Sequence[breaches.Unjudged]) -> dict[str, object]:
     """A record that isn't judged, with the masters for whom it is allowed and for whom it isn't."""
     refused = [node for it in left if it.record == one.record for node in it.masters]
     allowed = [node for node in one.masters if node not in refused]

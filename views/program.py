@@ -25,6 +25,7 @@ class Failed(Exception):
     """The program ended with another status than 0: its output and its status are handed on, with a line in words."""
 
     def __init__(self, output: bytes, status: int, sentence: Optional[str]) -> None:
+        """A run that ended so; nothing is said if whoever read it has gone."""
         super().__init__(status)
         self.output, self.status, self.sentence = output, status, sentence
 

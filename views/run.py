@@ -14,6 +14,7 @@ import os
 import signal
 import stat
 import sys
+from typing import Optional
 
 from forms import LIMITS, NOT_RUN, USAGE, files_of, form_of
 from target import Refused, Target, take_words
@@ -23,7 +24,7 @@ from told import tell
 HANDED = (signal.SIGHUP, signal.SIGINT, signal.SIGQUIT, signal.SIGTERM)
 
 
-def open_input(word):
+def open_input(word: str) -> Optional[int]:
     """The number of the open input that a word names, if it can be read only once: always that of `-`, and else that of a pipe or a terminal."""
     if word == "-":
         return 0
@@ -36,7 +37,7 @@ def open_input(word):
         return None
 
 
-def spooled(given, limit):
+def spooled(given: int, limit: int) -> str:
     """An open input, up to a byte past the limit, as a file that can be read again."""
     try:
         number = os.memfd_create("input")
@@ -54,25 +55,26 @@ def spooled(given, limit):
     return f"/dev/fd/{number}"
 
 
-def take_input(words):
+def take_input(words: list[str]) -> None:
     """Puts files that can be read again in the place of open inputs that can't."""
     inputs = {k: open_input(words[k]) for k, _ in files_of(words)}
     if list(inputs.values()).count(0) > 1:
         raise Refused("standard input can be only one of the files")
     for k, kind in files_of(words):
-        if inputs[k] is not None:
-            words[k] = spooled(inputs[k], LIMITS[kind])
+        number = inputs[k]
+        if number is not None:
+            words[k] = spooled(number, LIMITS[kind])
 
 
-def run(program, words, target):
+def run(program: str, words: list[str], target: Optional[Target]) -> int:
     """The exit status of the program with these words; that of a signal is below 0."""
     to = [(os.POSIX_SPAWN_DUP2, target.number, 1)] if target else []
     # (a signal that comes while the program is started waits until it can be handed on)
     mask = signal.pthread_sigmask(signal.SIG_BLOCK, HANDED)
     # (python ignores these two, and the program would too)
-    how = {"file_actions": to, "setsigdef": [signal.SIGPIPE, signal.SIGXFSZ], "setsigmask": mask}
+    heard = [signal.SIGPIPE, signal.SIGXFSZ]
     try:
-        child = os.posix_spawn(program, [program, *words], os.environ, **how)
+        child = os.posix_spawn(program, [program, *words], os.environ, file_actions=to, setsigdef=heard, setsigmask=mask)
     except OSError as fault:
         raise Refused(f"the program {program} can't be run: {fault.strerror}") from fault
     for it in HANDED:
@@ -83,7 +85,7 @@ def run(program, words, target):
     return -os.WTERMSIG(status) if os.WIFSIGNALED(status) else os.WEXITSTATUS(status)
 
 
-def end_by(number):
+def end_by(number: int) -> int:
     """Ends as the program did, by a signal."""
     if number in (*HANDED, signal.SIGPIPE):
         signal.signal(number, signal.SIG_DFL)
@@ -92,7 +94,7 @@ def end_by(number):
     return 128 + number
 
 
-def judge(words):
+def judge(words: list[str]) -> None:
     """Refuses words that have no form of the program's."""
     # (bytes of a word that are no UTF-8 are such characters)
     is_text = not any("\udc80" <= it <= "\udcff" for word in words for it in word)
@@ -102,7 +104,8 @@ def judge(words):
         raise Refused(usage(Run("", words, words)), USAGE)
 
 
-def main(program, words):
+def main(program: str, words: list[str]) -> int:
+    """Judges the words, runs the program if one is named, and gives the exit."""
     target = None
     try:
         name = take_words(words)

@@ -62,7 +62,8 @@ def zoom_of(end: int) -> str:
 def write(name: str, chip: Chip, run: Steps, end: int) -> None:
     """Writes a saved view of a dump with this last time, and the files of names beside it."""
     base = os.path.splitext(name)[0]
-    names, filters = path_of(chip), {}
+    names = path_of(chip)
+    filters: dict[tuple[str, ...], str] = {}
     lines = [zoom_of(end), f"@{TEXT | RIGHT:x}", *(f"script.{text}" for text in TEXTS)]
     for signal in shown_of(chip, run):
         words = tuple(values_of(chip, signal))

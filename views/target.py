@@ -10,7 +10,8 @@ from forms import NOT_RUN, UNWRITABLE
 class Refused(Exception):
     """Why nothing is run or put into the file, and the exit for it."""
 
-    def __init__(self, sentence, status=NOT_RUN):
+    def __init__(self, sentence: str, status: int = NOT_RUN) -> None:
+        """A refusal in one line, with the exit of it."""
         super().__init__(sentence)
         self.status = status
 
@@ -18,9 +19,11 @@ class Refused(Exception):
 class Target:
     """The file of `-o`: written beside its name, and moved there at the end."""
 
-    def __init__(self, name):
+    def __init__(self, name: str) -> None:
+        """Opens what is written to, beside the file of this name; or refuses it."""
         # (a link stays, and what it names is replaced)
-        self.name, self.path, self.beside = name, os.path.realpath(name), None
+        self.name, self.path = name, os.path.realpath(name)
+        self.beside: Optional[str] = None
         if name == "-":
             raise Refused("standard output is written without -o (a file of that name is ./-)")
         if not name:
@@ -44,7 +47,7 @@ class Target:
             self.drop()
             raise self.unwritable(fault) from fault
 
-    def put(self, data):
+    def put(self, data: bytes) -> None:
         """Puts these bytes where they belong."""
         try:
             with open(self.number, "wb", closefd=False) as file:
@@ -53,7 +56,7 @@ class Target:
             raise self.unwritable(fault) from fault
         self.take()
 
-    def take(self):
+    def take(self) -> None:
         """Puts what was written where it belongs."""
         try:
             if self.beside:
@@ -67,16 +70,18 @@ class Target:
         except OSError as fault:
             raise self.unwritable(fault) from fault
 
-    def drop(self):
+    def drop(self) -> None:
         """Removes what was written, if it isn't where it belongs."""
         if self.beside and os.path.lexists(self.beside):
             os.unlink(self.beside)
 
-    def unwritable(self, fault):
+    def unwritable(self, fault: OSError) -> Refused:
+        """Why the file can't be written, by the fault of a call."""
         return Refused(f"{self.name} can't be written: {fault.strerror}", UNWRITABLE)
 
 
-def umask():
+def umask() -> int:
+    """The permissions that a new file hasn't. They can be asked for by setting them alone."""
     mask = os.umask(0)
     os.umask(mask)
     return mask
@@ -85,7 +90,9 @@ def umask():
 def take_words(words: list[str]) -> Optional[str]:
     """Takes the options of the output out of the words: `-o FILE`, `-oFILE`, `--output FILE`, `--output=FILE`. Gives FILE,
     or None if there is none. Behind the first `--`, which goes too, no word is an option: one that begins with - is a file."""
-    names, kept, rest = [], [], iter(words)
+    names: list[str] = []
+    kept: list[str] = []
+    rest = iter(words)
     for word in rest:
         if word == "--":
             kept += [f"./{it}" if it.startswith("-") and it != "-" else it for it in rest]

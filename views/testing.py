@@ -7,7 +7,7 @@ topology. `--json` writes all in JSON.
 
 import os
 import tempfile
-from typing import Any, NamedTuple, Optional
+from typing import NamedTuple, Optional
 from xml.sax.saxutils import quoteattr
 
 import chip as chips
@@ -114,7 +114,7 @@ def as_tap(outcomes: list[Outcome]):
             print(f"# {in_one_line(difference)}")
 
 
-def as_json(outcomes: list[Outcome]) -> list[dict[str, Any]]:
+def as_json(outcomes: list[Outcome]) -> list[dict[str, object]]:
     """The outcomes for a program: each expectation with what is in its place, or null if it is met."""
     return [
         {

@@ -10,7 +10,7 @@ them: the line of the script, what is answered in it, and what the device refuse
 
 import sys
 import tempfile
-from typing import Any, Iterator, NamedTuple, Optional, Sequence
+from typing import Iterator, NamedTuple, Optional, Sequence
 
 import chip as chips
 import findings
@@ -108,7 +108,8 @@ def times_of(run: steps.Steps, script: list[str], by_ticks: bool) -> Times:
     lengths = [1] * (len(script) + 1)
     for moment in run.moments:
         lengths[moment.line] += len(moment.commands) + 1
-    places, second, within = [], 0, 0
+    places: list[tuple[int, int]] = []
+    second, within = 0, 0
     for length, line in zip(lengths, ["", *script]):
         passed = (ticks_of(line) if by_ticks else 1) if places else 0
         second, within = second + passed, 0 if passed else within
@@ -209,7 +210,7 @@ def kind_of(chip: Chip, unit: Unit) -> str:
     return chip.nodes[unit.number].kind if unit.kind == "node" else unit.kind
 
 
-def in_event(chip: Chip, event: Event) -> dict[str, Any]:
+def in_event(chip: Chip, event: Event) -> dict[str, object]:
     """An event as keys and values."""
     unit, of_device = event.signal
     state = None if event.value is None else values_of(chip, event.signal)[event.value]
@@ -217,7 +218,7 @@ def in_event(chip: Chip, event: Event) -> dict[str, Any]:
     return {"time": event.time, "line": event.line, **about, "value": event.value, "state": state}
 
 
-def in_json(chip: Chip, run: steps.Steps, script: list[str], by_ticks: bool) -> dict[str, Any]:
+def in_json(chip: Chip, run: steps.Steps, script: list[str], by_ticks: bool) -> dict[str, object]:
     """What a dump has, as keys and values: the lines of the script with their times, and the events, all signals being 0 before."""
     times, said = times_of(run, script, by_ticks), texts_of(chip, run, script)
     lines = [

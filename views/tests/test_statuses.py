@@ -34,14 +34,15 @@ WORKING = [
 ]
 
 
+def python_of(minor):
+    """A Python 3 of this minor version that runs here, or None."""
+    found = [shutil.which(f"python3.{minor}"), *sorted(glob.glob(os.path.expanduser(f"~/.pyenv/versions/3.{minor}.*/bin/python3")))]
+    return next((path for path in found if path and run([path, "-c", ""])[0] == 0), None)
+
+
 def old_python():
     """A Python that is older than the oldest one that serves, or None."""
-    for minor in range(oldest.OLDEST[1] - 1, 5, -1):
-        found = [shutil.which(f"python3.{minor}"), *sorted(glob.glob(os.path.expanduser(f"~/.pyenv/versions/3.{minor}.*/bin/python3")))]
-        for path in filter(None, found):
-            if run([path, "-c", ""])[0] == 0:
-                return path
-    return None
+    return next(filter(None, map(python_of, range(oldest.OLDEST[1] - 1, 5, -1))), None)
 
 
 def besides_judged(errors):
@@ -187,10 +188,10 @@ class Python(Case):
         self.assertEqual((status, output), (125, b""), errors)
         self.assertRegex(errors.decode(), r"\Apmu: this is Python 3\.\d, and the views want 3\.9 or a newer one\n\Z")
 
-    @unittest.skipUnless(shutil.which("python3.9") and run(["python3.9", "-c", ""])[0] == 0, "no Python 3.9 is here")
+    @unittest.skipUnless(python_of(oldest.OLDEST[1]), "the oldest Python that serves isn't here")
     def test_the_oldest_python_runs_each_view(self):
         for words in [*WORKING, ["names"]]:
-            ended = run(["python3.9", "-B", os.path.join(VIEWS, "main.py"), *words])
+            ended = run([python_of(oldest.OLDEST[1]), "-B", os.path.join(VIEWS, "main.py"), *words])
             self.assertEqual(ended, view(*words), words)
 
 
