@@ -74,7 +74,7 @@ class Shown(NamedTuple):
 
     def in_json(self, form: str) -> str:
         """The lines with their meanings, as JSON."""
-        lines = [{**line_of(form, line), "text": line, "meaning": meaning} for line, meaning in zip(self.lines, self.meanings)]
+        lines: list[dict[str, object]] = [{**line_of(form, line), "text": line, "meaning": meaning} for line, meaning in zip(self.lines, self.meanings)]
         return findings.whole("--names", 0, form=form, lines=lines, besides=list(self.besides))
 
 

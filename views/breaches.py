@@ -55,6 +55,7 @@ class Steps:
     """The steps of the paths of breaches: each once, with all records that give it."""
 
     def __init__(self, board: Board) -> None:
+        """No steps yet, of a board."""
         self.board = board
         self.reasons: dict[tuple[int, str], list[permits.Reason]] = {}
 
@@ -105,6 +106,7 @@ class Unjudged(NamedTuple):
     masters: list[int]
 
     def __str__(self) -> str:
+        """The line of the record, with the masters that may do it."""
         at = f"{self.record} (word {self.record.place})"
         return f"not judged: {at}: {permits.listed(self.masters)} may {self.act} {self.name}"
 
@@ -147,6 +149,7 @@ class Judgement(NamedTuple):
 
     @property
     def status(self) -> int:
+        """The exit."""
         return BROKEN if self.breaches else NOT_JUDGED if self.left else os.EX_OK
 
     def broken(self) -> list[Rule]:

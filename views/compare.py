@@ -41,6 +41,7 @@ class Path(NamedTuple):
     why: tuple[str, ...]  # the words of the reasons for the last step
 
     def __str__(self) -> str:
+        """The masters in their order, and the reasons."""
         return f"{' > '.join(self.masters)} ({', '.join(self.why)})"
 
 

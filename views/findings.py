@@ -25,6 +25,7 @@ class Place(NamedTuple):
     word: Optional[int] = None  # of four bytes, counted from 0
 
     def __str__(self) -> str:
+        """The file, with its line if it has lines."""
         return f"{self.file}:{self.line}" if self.line else self.file
 
 
@@ -37,6 +38,8 @@ class Change(NamedTuple):
 
 
 class Finding(NamedTuple):
+    """Something that is to be said of a record, a rule or a line of a script."""
+
     check: str
     level: str
     place: Place
@@ -46,6 +49,7 @@ class Finding(NamedTuple):
     change: Optional[Change] = None
 
     def __str__(self) -> str:
+        """In a line, with its place first."""
         at = f"{self.place}: {self.text}" + f" (word {self.place.word})" * (not self.place.line)
         return f"{at}: {self.message} [{self.check}{', note' * (self.level == NOTE)}]"
 
@@ -87,9 +91,9 @@ def region_of(place: Place, length: int = 4) -> dict[str, int]:
 
 def location_of(place: Place) -> dict[str, object]:
     """A place as a location of SARIF; it is the file if nothing more is known."""
-    where = {"artifactLocation": artifact_of(place.file)}
+    where: dict[str, object] = {"artifactLocation": artifact_of(place.file)}
     if place.line or place.word is not None:
-        where["region"] = region_of(place)  # type: ignore[assignment]
+        where["region"] = region_of(place)
     return {"physicalLocation": where}
 
 

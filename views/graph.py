@@ -218,12 +218,12 @@ def arrows_in_json(graph: Graph) -> Iterator[dict[str, object]]:
 def in_json(graph: Graph, start: int) -> dict[str, object]:
     """The graph as keys and values: the masters, the frames, and the arrows."""
     chip = graph.board.chip
-    masters = [{**findings.unit(permits.MASTER, node), "in_reach": node in graph.masters} for node in permits.masters(graph.board)]
+    masters: list[dict[str, object]] = [{**findings.unit(permits.MASTER, node), "in_reach": node in graph.masters} for node in permits.masters(graph.board)]
     drawn = [number for number in chip.of_kind("power") if domain_lines(number, graph, "")]
     units = [(kind, number) for kind, number in graph.units if kind == permits.SLAVE]
     units += [("processor", proc) for domain in drawn for proc in processors_of(graph, domain)]
     inside = [(kind, number, chip.nodes[number].parent) for kind, number in [*((permits.POWER, it) for it in drawn), *units]]
-    frames = [{**findings.unit(kind, number), "in": None if parent is None else names.node_name(parent)} for kind, number, parent in inside]
+    frames: list[dict[str, object]] = [{**findings.unit(kind, number), "in": None if parent is None else names.node_name(parent)} for kind, number, parent in inside]
     return {"master": names.node_name(start), "masters": masters, "frames": frames, "arrows": list(arrows_in_json(graph))}
 
 

@@ -283,7 +283,7 @@ def in_row(chip: chips.Chip, row: Row, units: dict[tuple[tuple[str, ...], str], 
     """A row as keys and values."""
     unit = units[row.signal.scope, row.signal.name]
     spans = [{"from": begin, "until": until, "state": row.words[value]} for begin, until, value in row.spans(end)]
-    about = {"of": "device" if row.signal.is_of_device() else "book", **findings.unit(waveform.kind_of(chip, unit), unit.number)}
+    about: dict[str, object] = {"of": "device" if row.signal.is_of_device() else "book", **findings.unit(waveform.kind_of(chip, unit), unit.number)}
     return {**about, "spans": spans, "pulses": row.pulses(), "refused": row.refused()}
 
 

@@ -51,7 +51,7 @@ def in_rule(rule: rules.Rule, found: Judgement) -> dict[str, object]:
 def in_steps(found: Judgement) -> Iterator[dict[str, object]]:
     """The steps of the paths, each with the records that give it."""
     for (master, end), reasons in found.steps.reasons.items():
-        given = [{"why": it.why, **in_record(it.record), "detail": it.detail} for it in reasons]
+        given: list[dict[str, object]] = [{"why": it.why, **in_record(it.record), "detail": it.detail} for it in reasons]
         yield {"from": names.node_name(master), "to": end, "reasons": given}
 
 
@@ -108,8 +108,8 @@ def repair_in_lines(made: repair.Repair) -> Iterator[str]:
 
 def repair_in_json(made: repair.Repair, status: int) -> str:
     """A repair as JSON."""
-    changes = [{**in_record(it.before), "after": str(it.after), "change": it.lost} for it in made.changes]
-    unmet = [{"master": names.node_name(it.master), **findings.unit(it.kind, it.unit)} for it in made.unmet]
+    changes: list[dict[str, object]] = [{**in_record(it.before), "after": str(it.after), "change": it.lost} for it in made.changes]
+    unmet: list[dict[str, object]] = [{"master": names.node_name(it.master), **findings.unit(it.kind, it.unit)} for it in made.unmet]
     return findings.whole("policy", status, changes=changes, unmet=unmet)
 
 

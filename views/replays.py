@@ -39,6 +39,7 @@ class Run(NamedTuple):
         tries: list[outages.Turned] = []
 
         def run(made: outages.Turned) -> list[str]:
+            """What the program writes of a try."""
             tries.append(made)
             return self.written(content_of(made.lines), name)
 

@@ -36,15 +36,17 @@ class Outcome(NamedTuple):
     """What became of a script."""
 
     name: str
-    clauses: list  # each expectation, with what is in its place, or None if it is met
+    clauses: list[tuple[expectations.Clause, Optional[str]]]  # each expectation, with what is in its place, or None if it is met
     failed: Optional[Failed] = None  # the program's own exit, if it couldn't run the script
 
     @property
     def differences(self) -> list[str]:
+        """What is otherwise than is expected."""
         return [told for _, told in self.clauses if told]
 
     @property
     def status(self) -> int:
+        """The exit for this script alone."""
         if self.failed:
             return self.failed.status
         return UNEXPECTED if self.differences else 0 if self.clauses else NOT_JUDGED
@@ -53,7 +55,7 @@ class Outcome(NamedTuple):
     def sentence(self) -> str:
         """What became of it, in one line."""
         if self.failed:
-            return self.failed.sentence
+            return self.failed.sentence or f"{self.name}: the program ended with {self.failed.status}"
         if not self.clauses:
             return f"{self.name}: nothing is expected of it"
         met = len(self.clauses) - len(self.differences)
@@ -95,7 +97,7 @@ def outcome(over: Run, path: str) -> Outcome:
     return Outcome(name, [(clause, instead and told(clause, instead, script)) for clause, instead in judgements])
 
 
-def plainly(outcomes: list[Outcome], is_whole: bool):
+def plainly(outcomes: list[Outcome], is_whole: bool) -> None:
     """Writes the outcomes as lines."""
     for it in outcomes:
         print(it.sentence)
@@ -105,7 +107,7 @@ def plainly(outcomes: list[Outcome], is_whole: bool):
             print(f"  and {len(it.differences) - 1} more (--all tells them)")
 
 
-def as_tap(outcomes: list[Outcome]):
+def as_tap(outcomes: list[Outcome]) -> None:
     """Writes the outcomes in the Test Anything Protocol. Of a script of which nothing is expected nothing is ok."""
     print(f"TAP version 13\n1..{len(outcomes)}")
     for number, it in enumerate(outcomes, 1):

@@ -214,7 +214,7 @@ def in_event(chip: Chip, event: Event) -> dict[str, object]:
     """An event as keys and values."""
     unit, of_device = event.signal
     state = None if event.value is None else values_of(chip, event.signal)[event.value]
-    about = {"of": "device" if of_device else "book", **findings.unit(kind_of(chip, unit), unit.number)}
+    about: dict[str, object] = {"of": "device" if of_device else "book", **findings.unit(kind_of(chip, unit), unit.number)}
     return {"time": event.time, "line": event.line, **about, "value": event.value, "state": state}
 
 

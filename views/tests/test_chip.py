@@ -1,18 +1,24 @@
 """The chip is what the program, or a topology's text, says that it is; and which one an object is judged over is told."""
 
 import os
+import re
 import unittest
 import unittest.mock
 
 import chip as chips
 import names
 import objects
+import permits
+import policy
 import program as programs
 import reached
 from common import EXAMPLES, TOPOLOGIES, Case, example, program, view
 
 PUBLISHED = os.path.join(TOPOLOGIES, "zynqmp-resets.topology")
 OWN = os.path.join(TOPOLOGIES, "zynqmp.topology")
+
+# Three masters.
+ALL_LINES = "header\nsection masters\nmaster 1 1 100 0 0\nmaster 7 2 100 0 0\nmaster 8 4 100 0 0\nsection reset\n"
 
 # A master that may reset the whole RPU, and another which runs there.
 BY_LINE = "header\nsection masters\nmaster 1 1 100 0 0\nmaster 7 2 100 0 0\nsection slaves\nslave 15 0 2\nsection reset\nreset {line} 1\n"
@@ -64,6 +70,37 @@ class Chip(Case):
         self.assertEqual(set(everything) - set(chip.resets[line["PS_ONLY"]]), {63, 69})
         self.assertEqual([chip.resets[line[name]] for name in ("SWDT_CRF", "GPO3_PL_0", "PS_PL3")], [(), (), ()])
         self.assertEqual(sum(1 for units in chip.resets.values() if len(units) > 1), len(reached.EFFECTS))
+
+    def test_where_a_register_is_published_is_said(self):
+        for name, effect in reached.EFFECTS.items():
+            register = effect.bit.split()[0].replace(".", "_")
+            self.assertIn(effect.register_in, (register, reached.REFERENCE), name)
+            if effect.field_in != reached.REFERENCE:
+                self.assertTrue(effect.field_in.startswith(register.split("_")[0]) and effect.register_in == register, name)
+        found = {name for name, effect in reached.EFFECTS.items() if effect.field_in != reached.REFERENCE}
+        self.assertEqual(found, {"SOFT", "RPU_AMBA"})
+
+    @unittest.skipUnless(os.environ.get("TF_A"), "the environment's TF_A names no unpacked source of TF-A")
+    def test_registers_are_those_of_the_firmware(self):
+        with open(os.path.join(os.environ["TF_A"], "plat/xilinx/zynqmp/include/zynqmp_def.h"), encoding="utf-8") as file:
+            macros = set(re.findall(r"^#define (\w+)", file.read(), re.MULTILINE))
+        for effect in reached.EFFECTS.values():
+            self.assertLessEqual({effect.register_in, effect.field_in} - {reached.REFERENCE}, macros)
+
+    def test_a_line_of_which_nothing_is_known_is_not_judged(self):
+        records = "".join(f"reset {line} 1\n" for line in names.RESETS)
+        path = self.object_of(ALL_LINES + records)
+        board = chips.chosen(path, objects.read(path), [PUBLISHED])
+        silent = {record.record.line for record in policy.unjudged(board)}
+        self.assertEqual(silent, {line for line in names.RESETS if not board.chip.resets[line]})
+        self.assertEqual(len(silent), 55)
+        # (and each other one brings all that it resets into the reach)
+        for line in set(names.RESETS) - silent:
+            for unit in board.chip.resets[line]:
+                owner = permits.owner(board, unit)
+                reasons = permits.brings(board, 1, "slave", unit) if owner is None else permits.leads(board, 1, owner)
+                found = [reason.record.line for reason in reasons if reason.why == "reset"]
+                self.assertIn(line, found, unit)
 
     def test_an_object_with_published_lines_is_judged_over_these(self):
         path = self.object_of(BY_LINE.format(line=1054))
