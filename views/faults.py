@@ -133,7 +133,7 @@ def usage(run: Run) -> str:
     first = written[0]
     if first not in FORMS:
         return f"no form begins with '{first}'{like(first, (*FORMS, *OTHER_WORDS))}: {HELP}"
-    if form_of(written):
+    if form_of(written) is not None:
         return "the program reads no word that isn't UTF-8: " + next(word for word in written if any("\udc80" <= it <= "\udcff" for it in word))
     given = len(written) - 1
     return f"'{first}' takes {taken_by(first)}, and {given} {'is' if given == 1 else 'are'} given"

@@ -98,7 +98,7 @@ def judge(words: list[str]) -> None:
     """Refuses words that have no form of the program's."""
     # (bytes of a word that are no UTF-8 are such characters)
     is_text = not any("\udc80" <= it <= "\udcff" for word in words for it in word)
-    if not (form_of(words) and is_text):
+    if form_of(words) is None or not is_text:
         from faults import Run, usage
 
         raise Refused(usage(Run("", words, words)), USAGE)
