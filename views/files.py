@@ -39,7 +39,10 @@ def write_out(output: bytes) -> None:
     try:
         if sys.stdout is None:  # (it was closed when Python began)
             raise OSError(errno.EBADF, os.strerror(errno.EBADF))
-        sys.stdout.buffer.write(output)
+        # (with PYTHONUNBUFFERED a write may take a part alone, if the output is full or whoever read it goes)
+        left = memoryview(output)
+        while left:
+            left = left[sys.stdout.buffer.write(left) :]
         sys.stdout.buffer.flush()
     except OSError as fault:
         # (Python writes what is left at its end: let that go nowhere)

@@ -145,6 +145,28 @@ class Statuses(Case):
             os.close(writer)
             self.assertEqual((ended.returncode, besides_judged(ended.stderr)), (5, []), words)
 
+    def test_an_output_of_which_a_part_alone_is_taken(self):
+        script = self.file("long.script", "ipi 1 3 33\n" * 4_000)
+        words = [sys.executable, os.path.join(VIEWS, "main.py"), "--names", "replay", LABORATORY, script]
+        for kind in ("", "1"):
+            with subprocess.Popen(words, stdout=subprocess.PIPE, stderr=subprocess.PIPE, env={**os.environ, "PYTHONUNBUFFERED": kind}) as begun:
+                # (who reads it goes after the first line)
+                self.assertTrue(begun.stdout.readline())
+                begun.stdout.close()
+                self.assertEqual((begun.stderr.read(), begun.wait()), (b"", 5), kind)
+            full = os.open(os.path.join(self._room.name, "full"), os.O_WRONLY | os.O_CREAT)
+            limited = ["prlimit", f"--fsize={100_000}", *words]
+            ended = subprocess.run(limited, stdout=full, stderr=subprocess.PIPE, env={**os.environ, "PYTHONUNBUFFERED": kind}, check=False)
+            os.close(full)
+            self.assertEqual((ended.returncode, ended.stderr), (5, b"standard output can't be written: File too large\n"), kind)
+
+    def test_a_form_without_words(self):
+        program_ = os.environ["PMU_PROGRAM"]
+        for words, wanted in ((["table"], program("table")), (["table", "more"], (1, b"", b"'table' takes no word after it, and 1 is given\n"))):
+            self.assertEqual(run([sys.executable, os.path.join(VIEWS, "run.py"), program_, *words]), wanted)
+        for first, names in forms.FORMS.items():
+            self.assertEqual(run([sys.executable, os.path.join(VIEWS, "run.py"), "", first, *names]), (0, b"", b""), first)
+
     def test_what_the_program_ends_with_is_handed_on(self):
         bad = self.file("bad.obj", b"\0" * 5)
         self.assertEqual(view("--names", "print", bad)[:2], program("print", bad)[:2])
