@@ -26,7 +26,7 @@ pub record HasRoom (t : Topology) (masters : ℕ) (out : Outbox) : Type 0 where
   pub late : masters ≤ out.late.room
   pub callbacks : callback_count (unit_count t) masters ≤ out.callbacks.room
 
--- the same for the chip and the masters of a book
+-- it has room for the chip and the masters of a book
 abbrev pub HasRoomFor : State → Outbox → Type 0
 HasRoomFor book out = HasRoom book.fixed.topology (length book.fixed.object.masters) out
 

@@ -46,7 +46,7 @@ answer_of Dropped master call after = Drop master
 answer_of (Refused response) master call after = answered (response_of (Refused response)) master call after
 answer_of (Accepted effects) master call after = answered (response_of (Accepted effects)) master call after
 
--- the same of an event, in the book after it
+-- the answer to an event, in the book after it
 abbrev pub answer_by : Option Served → State → Answer
 answer_by None after = Silent
 answer_by (Some served) after = answer_of served.verdict served.master served.call after

@@ -30,6 +30,7 @@ pub(crate) fn answer(tables: &Tables, caches: &Caches, served: &Option<Served>, 
     }
 }
 
+/// Leaves the answer to a message, by its verdict: a drop, nothing, a reply or an acknowledgement.
 fn answer_to(tables: &Tables, caches: &Caches, served: &Served, answer: &mut Answer)
     requires { AreKept tables.now caches.now }
     ensures { answer.new ≡ answer_of served.now.verdict served.now.master served.now.call tables.now }
@@ -45,6 +46,8 @@ fn answer_to(tables: &Tables, caches: &Caches, served: &Served, answer: &mut Ans
     }
 }
 
+/// Leaves a response in the form that the call's acknowledge kind asks for (UG1200, REQUEST_ACK_NO,
+/// REQUEST_ACK_BLOCKING, REQUEST_ACK_NON_BLOCKING).
 fn acknowledge(
     tables: &Tables,
     caches: &Caches,

@@ -74,7 +74,7 @@ impl Book {
     ///
     /// # Errors
     ///
-    /// `NoMemory` where there is not enough memory: the object and the topology are dropped, and
+    /// `NoMemory` if there is not enough memory: the object and the topology are dropped, and
     /// nothing is in the outbox.
     pub fn load(
         alloc: Global,
@@ -123,7 +123,7 @@ impl Book {
     /// boot loader starts a processor that is off and that a configured master has, and a suspending one
     /// that waits for an interrupt sleeps. An interrupt wakes a processor that is asleep or suspending: one at
     /// the processor itself, or that of a slave on which a row is armed with the processor. With a tick time
-    /// passes for each request to suspend. Such a request ends where its target becomes asleep or off, goes
+    /// passes for each request to suspend. Such a request ends if its target becomes asleep or off, goes
     /// on in place of suspending or aborts, or where its time is over. No other event changes the book. The
     /// outbox, which was loaded for the book's topology and masters, then holds what this step puts out, in the
     /// room that it had. No memory is taken.
@@ -240,7 +240,7 @@ impl Book {
     /// about each unit of the chip.
     ///
     /// That it meets its requirements: each slave stands in the first of its states that meets all that is required of
-    /// it, each processor is at 1 exactly where it is active or suspending, and each power node is up exactly where it
+    /// it, each processor is at 1 exactly if it is active or suspending, and each power node is up exactly if it
     /// is held or something directly below needs power in its value.
     pub fn stays_sound(&self)
         ensures formed { IsWellFormed self.now.fixed.topology }
@@ -323,7 +323,7 @@ impl Book {
         self.tables.master_mode(master)
     }
 
-    /// The row of a master on a slave. There is none exactly where the object in force doesn't permit the
+    /// The row of a master on a slave. There is none exactly if the object in force doesn't permit the
     /// pair: the master isn't configured, the slave isn't in the table, or the mask of the object's
     /// record of the slave lacks the master's bit.
     pub fn row(&self, master: NodeId, slave: NodeId) -> Option<Row>

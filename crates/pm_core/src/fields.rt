@@ -26,6 +26,7 @@ fn take_apart(book: &Book) {
     telling.name_fields();
 }
 
+/// The chip's own table.
 fn chip(alloc: Global) -> Result<Topology, NoMemory>
     ensures formed { IfOk result IsWellFormed }
 {
@@ -70,6 +71,7 @@ fn load_and_take_apart(alloc: Global, object: Object, chip: Topology) -> Result<
     }
 }
 
+/// A book is loaded and taken apart into its fields.
 #[test]
 fn book_fields(rt: HostRuntime) -> Result<(), Fail> {
     let chip = chip(rt.alloc())?;
