@@ -53,7 +53,7 @@ IsFailure (Begin name (Some id)) = ⊥
 IsFailure (Read id None) = ⊤
 IsFailure (Read id (Some bytes)) = ⊥
 
--- the same, broken off by a call that failed, which is the last one
+-- such calls, broken off by a call that failed, which is the last one
 pub record ReadsToFault (names : List Named) (calls : List Call) : Type 0 where
   pub front : List Call
   pub last : Call
@@ -91,7 +91,7 @@ GoesOn id left false calls = ReadsOut id left calls
 abbrev pub Comes : ℕ → ℕ → Bool → ℕ → Bool → List Call → Type 0
 Comes id first ended left now_ended calls = (rest : List Call) → GoesOn id left now_ended rest → GoesOn id first ended (calls ++ rest)
 
--- the same, broken off by a read that failed, which is the last call
+-- such reads, broken off by one that failed, which is the last call
 pub record GoesToFault (id left : ℕ) (ended : Bool) (calls : List Call) : Type 0 where
   pub front : List Call
   pub is : calls ≡ front ++ Read id None ∷ []

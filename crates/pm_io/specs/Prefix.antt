@@ -27,7 +27,7 @@ prefix_within limit bytes =
     if nat_le (length bytes) limit then record { bytes = bytes; stop = End }
     else record { bytes = take (limit + 1) bytes; stop = Limit }
 
--- the same where each read that begins at a place fails: the bytes before that place, where it is met
+-- the prefix if each read that begins at a place fails: the bytes before that place, if it is met
 abbrev pub prefix_before : ℕ → Option ℕ → List ℕ → Prefix
 prefix_before limit None bytes = prefix_within limit bytes
 prefix_before limit (Some at) bytes =

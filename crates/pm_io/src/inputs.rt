@@ -21,8 +21,8 @@ pub trait Inputs {
     /// Begins the named input, and answers the number under which it is read from its front. What
     /// is left under other numbers stays.
     ///
-    /// `Failed` comes only where the count of faults rose. Where the inputs are observable, it
-    /// comes exactly where the name isn't there or no more inputs can be begun.
+    /// `Failed` comes only if the count of faults rose. If the inputs are observable, it
+    /// comes exactly if the name isn't there or no more inputs can be begun.
     fn begin(&mut self, name: &str) -> Result<u32, Failed>
         ensures cause { HasCause (state self.old).faults (state self.new).faults result }
         ensures begun { observable → MatchResult result
@@ -37,8 +37,8 @@ pub trait Inputs {
     /// don't go past the name's least failing byte. For a `buf` that isn't empty, 0 is the end of
     /// the input. A number that no `begin` answered has nothing left, and gives nothing.
     ///
-    /// `Failed` comes only where the count of faults rose, and takes nothing. Where the
-    /// inputs are observable, it comes exactly where the input stands at its name's least failing byte.
+    /// `Failed` comes only if the count of faults rose, and takes nothing. If the
+    /// inputs are observable, it comes exactly if the input stands at its name's least failing byte.
     fn read(&mut self, id: u32, buf: &mut [u8]) -> Result<usize, Failed>
         ensures bound { IfOk result (λ count. count ≤ length buf.new) }
         ensures cause { HasCause (state self.old).faults (state self.new).faults result }

@@ -233,6 +233,7 @@ impl Inputs for MemInputs {
     }
 }
 
+/// What was begun under a number, if anything was.
 fn reading_of(begun: &[Reading], id: u32) -> Option<Reading>
     ensures { result ≡ slice_get begun.now id }
 {
@@ -256,12 +257,14 @@ fn read_in(files: &[StoredFile], reading: Reading, buf: &mut [u8]) -> Option<usi
     }
 }
 
+/// The place of the first file of a name, if there is one.
 fn place_of(files: &[StoredFile], name: &str) -> Option<usize>
     ensures { MatchOption result (file_of name.now files.now ≡ None) (FoundFile name.now files.now) }
 {
     first_named(files, name)
 }
 
+/// The place of the first file of a name, if there is one.
 fn first_named(files: &[StoredFile], name: &str) -> Option<usize>
     ensures { result ≡ position (is_named name.now) files.now }
 {
@@ -277,6 +280,7 @@ fn least_failing(file: usize, failing: &[(u32, u32)]) -> Option<u32>
         .fold(None, |found, entry| least_with(file, found, *entry))
 }
 
+/// The least byte at which a file fails, with one entry more: a file and such a byte.
 fn least_with(file: usize, found: Option<u32>, entry: (u32, u32)) -> Option<u32>
     ensures { result ≡ least_with file found entry }
 {

@@ -94,6 +94,7 @@ impl Sink for MemSink {
     }
 }
 
+/// How many bytes of a piece a sink takes that holds some: as many as it has room for.
 fn count_taken(room: Option<u32>, held: usize, piece: usize) -> usize
     ensures { result ≡ count_taken room held piece }
 {

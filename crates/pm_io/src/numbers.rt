@@ -6,7 +6,7 @@ ghost use Rattle.pm_io.specs.Numbers.{value_of, number_of, at_most};
 /// The number that a word stands for: decimal digits, or `0x` and hexadecimal digits of either case.
 /// Leading zeros change nothing.
 ///
-/// `None` comes exactly where the word is no number, or its number is above `greatest`. It takes no
+/// `None` comes exactly if the word is no number, or its number is above `greatest`. It takes no
 /// memory. One decimal digit or two, as most words are, are read without a loop.
 pub fn number(word: &[u8], greatest: u64) -> Option<u64>
     ensures { result ≡ at_most greatest (number_of word.now) }
@@ -54,6 +54,7 @@ fn value(digits: &[u8], base: u32, greatest: u64) -> Option<u64>
     Some(total)
 }
 
+/// A number with a digit more at its end, if it isn't too great.
 fn with_digit(total: u64, base: u32, digit: u32, greatest: u64) -> Option<u64>
     ensures { result ≡ at_most greatest (Some (total * base + digit)) }
 {

@@ -57,6 +57,7 @@ impl Prefix {
         }
     }
 
+    /// Why no more was read.
     pub fn stop(&self) -> StopReason
         ensures { result ≡ self.now.stop }
     {

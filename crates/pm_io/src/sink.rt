@@ -21,7 +21,7 @@ pub trait Sink {
     /// Appends first bytes of `piece`, and answers how many. Taking 0 of a piece that isn't empty
     /// is a fault of the sink by rule.
     ///
-    /// `Failed` comes exactly where the count of faults rose, and appends nothing.
+    /// `Failed` comes exactly if the count of faults rose, and appends nothing.
     fn write(&mut self, piece: &[u8]) -> Result<usize, Failed>
         ensures bound { IfOk result (λ count. count ≤ length piece.now) }
         ensures cause { HasCause (state self.old).faults (state self.new).faults result }

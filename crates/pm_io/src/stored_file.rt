@@ -29,6 +29,7 @@ impl Model for StoredFile {
 }
 
 impl StoredFile {
+    /// A file in memory, which fails at a byte if one is given.
     pub(crate) fn new(
         alloc: Global,
         name: &str,
@@ -49,6 +50,7 @@ impl StoredFile {
         })
     }
 
+    /// Whether it has this name.
     pub(crate) fn is_named(&self, name: &str) -> bool
         ensures { result ≡ is_named name.now self.now }
     {
@@ -77,6 +79,7 @@ impl StoredFile {
     }
 }
 
+/// The place up to which a read may go: `end`, or the failing byte if that comes first.
 fn stop_of(fails_at: Option<u32>, end: usize, place: usize) -> usize
     ensures { result ≡ stop_of fails_at end place }
 {

@@ -9,7 +9,7 @@ use crate::lines::without_return;
 ///
 /// Words are separated by spaces and tabs. A word that begins with `#` begins a comment to the
 /// line's end, which is no word. One carriage return at the line's end is no part of a word. `None`
-/// comes exactly where the line has no more than `k` words. It takes no memory.
+/// comes exactly if the line has no more than `k` words. It takes no memory.
 #[tactic(auto, unfolding(crate::specs::Words::words))]
 pub fn word(line: &[u8], k: usize) -> Option<(usize, usize)>
     ensures { result ≡ slice_get (words line.now) k }
@@ -26,6 +26,7 @@ pub fn word_text(line: &[u8], k: usize) -> Option<&[u8]>
     Some(&line[start..end])
 }
 
+/// Between which bytes the `k`-th word of a line is, if it has so many before a comment.
 fn word_of(text: &[u8], k: usize) -> Option<(usize, usize)>
     ensures { result ≡ slice_get (words_from None 0 text.now) k }
 {

@@ -9,7 +9,7 @@ use pm_base::Failed;
 
 /// Writes all of `bytes`, in as many pieces as the sink wants.
 ///
-/// `Failed` comes exactly where the sink failed or took 0 of a piece that isn't empty. The sink then
+/// `Failed` comes exactly if the sink failed or took 0 of a piece that isn't empty. The sink then
 /// has some first bytes of them, never all, and is given nothing more.
 pub fn write_all<K: Sink>(sink: &mut K, bytes: &[u8]) -> Result<(), Failed>
     ensures written { OnOk result (Wrote K.observable bytes.now (K.state sink.old) (K.state sink.new)) }
