@@ -30,7 +30,7 @@ pub(crate) fn kept_of(values: &UnitMap<KeptValue>, unit: Unit) -> KeptValue
     values.get(unit).unwrap_or(idle())
 }
 
-/// Keeps the value of a command for its unit, and the counts of uses. Nothing changes where the unit isn't there. The value
+/// Keeps the value of a command for its unit, and the counts of uses. Nothing changes if the unit isn't there. The value
 /// before it comes out.
 pub(crate) fn keep(values: &mut UnitMap<KeptValue>, uses: &mut UseCounts, command: Command) -> u32
     requires { CountsUses values.old uses.old }

@@ -68,7 +68,7 @@ impl Kept {
     ///
     /// # Errors
     ///
-    /// `NoMemory` where there is not enough memory.
+    /// `NoMemory` if there is not enough memory.
     pub fn load(alloc: Global, t: &Topology) -> Result<Kept, NoMemory>
         ensures first { IfOk result (λ kept. kept ≡ at_zero t.now) }
         ensures record { IfOk result (IsRecordOf t.now) }
@@ -102,7 +102,7 @@ impl Kept {
         kept_of(&self.values, unit).lags
     }
 
-    /// The place of the first unit from this one on that is marked, and the number of units where there is none. None
+    /// The place of the first unit from this one on that is marked, and the number of units if there is none. None
     /// that is marked stands before it.
     pub fn next_marked(&self, from: usize) -> usize
         requires { from ≤ length self.now }
@@ -113,7 +113,7 @@ impl Kept {
         self.marked.next(from)
     }
 
-    /// The place of the first unit behind this one that is marked, and the number of units where there is none. It is
+    /// The place of the first unit behind this one that is marked, and the number of units if there is none. It is
     /// known at once where this place is the `i`-th of those that are marked, and is searched for else.
     #[inline(always)]
     pub fn next_behind(&self, i: usize, place: usize) -> usize
@@ -192,7 +192,7 @@ impl Kept {
         }
     }
 
-    /// The unit at a place and what is kept of it, where there is one.
+    /// The unit at a place and what is kept of it, if there is one.
     pub fn entry(&self, place: usize) -> Option<(Unit, KeptValue)>
         ensures { result ≡ slice_get self.now place }
     {
@@ -243,7 +243,7 @@ impl Kept {
         }
     }
 
-    /// Marks the unit at a place, where there is one.
+    /// Marks the unit at a place, if there is one.
     fn mark_place(&mut self, place: usize)
         ensures { (e : Part × KeptValue) → slice_get self.old place ≡ Some e → Marks (e.0 ∷ []) self.old self.new }
     {
@@ -252,7 +252,7 @@ impl Kept {
         }
     }
 
-    /// Marks a reset line, where there is one.
+    /// Marks a reset line, if there is one.
     pub fn mark_pulsed(&mut self, line: Option<LineId>)
         ensures { Marks (pulsed line) self.old self.new }
     {
@@ -269,6 +269,7 @@ impl Kept {
         self.mark_one(Unit::Line(line));
     }
 
+    /// Marks a unit, if the chip has it.
     #[inline(always)]
     fn mark_one(&mut self, unit: Unit)
         ensures { Marks (unit ∷ []) self.old self.new }

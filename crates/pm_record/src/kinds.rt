@@ -11,7 +11,7 @@ use pm_topology::{Kind, Topology, UnitMap, kinds_are_exact};
 use std::alloc::Global;
 
 /// The kinds of the units of a record, by place, as the chip has them for which it was loaded. A kind is taken from here
-/// only where the chip that is asked about has it too: an entry with the node's number stands at that place of its table.
+/// only if the chip that is asked about has it too: an entry with the node's number stands at that place of its table.
 #[derive(Drop)]
 pub(crate) struct Kinds {
     kinds: List<Kind>,
@@ -22,7 +22,7 @@ impl Kinds {
     ///
     /// # Errors
     ///
-    /// `NoMemory` where there is not enough memory.
+    /// `NoMemory` if there is not enough memory.
     pub(crate) fn load(
         alloc: Global,
         values: &UnitMap<KeptValue>,

@@ -78,7 +78,7 @@ pub(crate) fn mark_all<W: Wanted>(
     }
 }
 
-/// Marks the unit at a place exactly where its value isn't the one that is wanted, and lists the place then.
+/// Marks the unit at a place exactly if its value isn't the one that is wanted, and lists the place then.
 fn mark_at<W: Wanted>(
     values: &mut UnitMap<KeptValue>,
     place: usize,
@@ -105,7 +105,7 @@ fn mark_at<W: Wanted>(
     listed.insert(place);
 }
 
-/// What is kept of a unit, with a mark exactly where its value isn't this one.
+/// What is kept of a unit, with a mark exactly if its value isn't this one.
 fn mark(kept: KeptValue, value: u32) -> KeptValue
     ensures { result ≡ record kept { lags = not (kept.value == value) } }
 {

@@ -56,7 +56,7 @@ impl Places {
         self.items.as_slice()
     }
 
-    /// The first place from this one on, and the end where there is none.
+    /// The first place from this one on, and the end if there is none.
     pub(crate) fn next(&self, from: usize) -> usize
         requires { from ≤ self.now.room }
         ensures from { from ≤ result }
@@ -82,7 +82,7 @@ impl Places {
         }
     }
 
-    /// The first place behind this one, and the end where there is none. It is known at once where this one is the
+    /// The first place behind this one, and the end if there is none. It is known at once where this one is the
     /// `i`-th.
     #[inline(always)]
     pub(crate) fn next_behind(&self, i: usize, place: usize) -> usize
@@ -121,7 +121,7 @@ impl Places {
         }
     }
 
-    /// The first place from this one on, and the end where there is none. It stands apart, since as a rule it isn't
+    /// The first place from this one on, and the end if there is none. It stands apart, since as a rule it isn't
     /// asked.
     #[inline(never)]
     fn next_from(&self, from: usize) -> usize
@@ -147,7 +147,7 @@ impl Places {
         self.items.clear();
     }
 
-    /// Puts a place in, where it isn't there yet.
+    /// Puts a place in, if it isn't there yet.
     #[inline(always)]
     pub(crate) fn insert(&mut self, place: usize)
         requires within { place < self.old.room }
@@ -161,7 +161,7 @@ impl Places {
         }
     }
 
-    /// Puts a place in among the others, where it isn't there yet.
+    /// Puts a place in among the others, if it isn't there yet.
     #[inline(never)]
     fn put_among(&mut self, place: usize)
         requires within { place < self.old.room }
@@ -218,7 +218,7 @@ impl Places {
     }
 }
 
-/// The first of some places from this one on, and the end where there is none.
+/// The first of some places from this one on, and the end if there is none.
 fn first_from(places: &[usize], from: usize, end: usize) -> usize
     requires fits { from ≤ end }
     requires rise { RiseWithin 0 end places.now }

@@ -37,7 +37,7 @@ impl UseCounts {
     ///
     /// # Errors
     ///
-    /// `NoMemory` where there is not enough memory.
+    /// `NoMemory` if there is not enough memory.
     pub(crate) fn load(alloc: Global, values: &UnitMap<KeptValue>) -> Result<UseCounts, NoMemory>
         ensures { IfOk result (CountsUses values.now) }
     {
