@@ -14,6 +14,6 @@ abbrev pub active_at_load : Option ℕ → ℕ → ℕ
 active_at_load None masters = masters
 active_at_load (Some p) masters = 0
 
--- the same for an object and a chip
+-- the master that starts at the load of an object over a chip
 abbrev pub boot_master : Object → Topology → ℕ
 boot_master object t = active_at_load (boot_proc object t) (length object.masters)

@@ -51,7 +51,7 @@ need_of core s slave = needs_in (chosen core s slave) slave
 abbrev pub runs : CoreHalf → ℕ → Bool
 runs core p = is_awake (mode_at p core.procs)
 
--- the same beside its entry in the table
+-- whether a processor runs, beside its entry in the table
 abbrev pub run_of : CoreHalf → ℕ → ProcDef → Bool
 run_of core p proc = runs core p
 

@@ -52,6 +52,7 @@ impl Chip {
         })
     }
 
+    /// The topology of the chip.
     pub(crate) fn topology(&self) -> &Topology
         ensures { result.now ≡ self.now }
     {

@@ -28,6 +28,7 @@ pub(crate) fn load(
     load_by::<Brand>(alloc, masters, slaves, boot, pairs, seeds, Blank::new(1))
 }
 
+/// The rows at load. All functions here take the steps of a counter that their caller names, and keep no count.
 fn load_by<L: Ledger>(
     alloc: Global,
     masters: usize,
@@ -62,6 +63,7 @@ pub(crate) fn change(rows: &mut Rows, master: usize, slave: usize, by: Change)
     change_by::<Brand>(rows, master, slave, by, Blank::new(1));
 }
 
+/// Makes a change of the row of a pair.
 fn change_by<L: Ledger>(rows: &mut Rows, master: usize, slave: usize, by: Change, blank: Blank)
     requires name { blank.name ≡ L.name }
     requires parts { blank.parts ≡ L.parts }
@@ -78,6 +80,7 @@ pub(crate) fn shift(rows: &mut Rows, master: usize, to: Mode)
     shift_by::<Brand>(rows, master, to, Blank::new(1));
 }
 
+/// Has the rows of a master follow it into a mode.
 fn shift_by<L: Ledger>(rows: &mut Rows, master: usize, to: Mode, blank: Blank)
     requires name { blank.name ≡ L.name }
     requires parts { blank.parts ≡ L.parts }
@@ -94,6 +97,7 @@ pub(crate) fn settle(rows: &mut Rows, master: usize)
     settle_by::<Brand>(rows, master, Blank::new(1));
 }
 
+/// Ends the holds of a master.
 fn settle_by<L: Ledger>(rows: &mut Rows, master: usize, blank: Blank)
     requires name { blank.name ≡ L.name }
     requires parts { blank.parts ≡ L.parts }
@@ -110,6 +114,7 @@ pub(crate) fn drop_slave(rows: &mut Rows, slave: usize)
     drop_slave_by::<Brand>(rows, slave, Blank::new(1));
 }
 
+/// Clears the rows on a slave, but for presets.
 fn drop_slave_by<L: Ledger>(rows: &mut Rows, slave: usize, blank: Blank)
     requires name { blank.name ≡ L.name }
     requires parts { blank.parts ≡ L.parts }
@@ -126,6 +131,7 @@ pub(crate) fn clear(rows: &mut Rows)
     clear_by::<Brand>(rows, Blank::new(1));
 }
 
+/// Clears all rows, but for presets.
 fn clear_by<L: Ledger>(rows: &mut Rows, blank: Blank)
     requires name { blank.name ≡ L.name }
     requires parts { blank.parts ≡ L.parts }
@@ -144,6 +150,7 @@ pub(crate) fn reload(rows: &mut Rows, seeds: &[RowSeed])
     reload_by::<Brand>(rows, seeds, Blank::new(1));
 }
 
+/// Makes all rows anew, of another object.
 fn reload_by<L: Ledger>(rows: &mut Rows, seeds: &[RowSeed], blank: Blank)
     requires room { length seeds.now ≤ rows.old.room }
     requires placed { IsTrue (list_all (is_placed_seed rows.old.slaves) seeds.now) }

@@ -19,7 +19,7 @@ use pm_procs::{modes_of_masters, requests_of_masters};
 use pm_rows::{rows_stay_sound, shifts_leave_others};
 
 /// The book at load is sound, whichever object of the run is in force, and in a sound book a master has a row on a
-/// slave exactly where the object in force permits the pair.
+/// slave exactly if the object in force permits the pair.
 pub fn loads_are_sound()
     ensures load { (fixed : Fixed) (object : Object) (k : ℕ) → object_at fixed k ≡ Some object
         → IsSound (load_in fixed object) }

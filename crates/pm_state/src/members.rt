@@ -11,6 +11,7 @@ use pm_perms::owner_of;
 use pm_topology::{ProcDef, Topology};
 use std::alloc::Global;
 
+/// The processor at a place, if there is one.
 fn proc_at(procs: &[ProcDef], p: usize) -> Option<ProcDef>
     ensures { result ≡ slice_get procs.now p }
 {
@@ -27,6 +28,7 @@ pub(crate) fn owner_at(object: &Object, t: &Topology, p: usize) -> Option<usize>
     }
 }
 
+/// The place of a processor, if the chip has it.
 fn proc_place(procs: &[ProcDef], node: NodeId) -> Option<usize>
     ensures { result ≡ proc_place procs.now node.0 }
 {

@@ -12,6 +12,7 @@ use pm_procs::Proc;
 use pm_rows::Row;
 use pm_topology::Kind;
 
+/// The number of the master at a place; 0 if there is none.
 pub fn master_node(masters: &[MasterRec], place: usize) -> NodeId
     ensures { result ≡ Nodes.master_node masters.now place }
 {

@@ -81,6 +81,7 @@ fn current_by(all: Caps, entry: Option<PreRec>) -> Option<Caps>
     }
 }
 
+/// The pair of a master and a slave that it may use, with what the object says of it.
 fn permitted_of(
     object: &Object,
     m: usize,
@@ -105,6 +106,7 @@ fn permitted_of(
     }
 }
 
+/// Puts the pairs on a slave at the end: one for each master that may use it.
 fn push_permitted_on(
     pairs: &mut List<Permitted>,
     object: &Object,

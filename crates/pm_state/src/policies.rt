@@ -19,6 +19,7 @@ pub struct Policy {
 }
 
 impl Policy {
+    /// What an object permits: who may do what, and the pairs.
     fn load(alloc: Global, object: &Object, t: &Topology) -> Result<Policy, NoMemory>
         ensures { IfOk result (λ policy. policy ≡ policy_of t.now object.now) }
     {

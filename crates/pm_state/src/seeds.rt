@@ -70,7 +70,7 @@ fn taker(rows: &Rows, slave: usize, pairs: &[Permitted]) -> Option<usize>
     None
 }
 
-/// The capabilities with which a pair is used anew, if it is: it asks to be, and where the slave can't be shared, its
+/// The capabilities with which a pair is used anew, if it is: it asks to be, and if the slave can't be shared, its
 /// master takes the slave.
 fn start_anew(rows: &Rows, pairs: &[Permitted], permitted: &Permitted) -> Option<Caps>
     ensures { result ≡ spec.start_anew rows.now.known pairs.now permitted.now }
@@ -86,6 +86,7 @@ fn start_anew(rows: &Rows, pairs: &[Permitted], permitted: &Permitted) -> Option
     }
 }
 
+/// The seed of a pair's row, once this object is in force in place of another.
 fn seed_anew(rows: &Rows, pairs: &[Permitted], permitted: &Permitted) -> RowSeed
     ensures { result ≡ spec.seed_anew rows.now.known pairs.now permitted.now }
 {

@@ -146,7 +146,7 @@ impl Tables {
         self.halted = false;
     }
 
-    /// The object at place `k` of the run is in force, and all rows are made anew of it. Nothing changes where there is
+    /// The object at place `k` of the run is in force, and all rows are made anew of it. Nothing changes if there is
     /// none.
     pub fn enforce(&mut self, k: usize)
         ensures { self.new ≡ changed (Enforce k ∷ []) self.old }

@@ -125,18 +125,21 @@ impl Tables {
         self.procs.pending(m)
     }
 
+    /// What a node is: a slave, processor or power node, with its place, or nothing.
     pub fn kind(&self, node: NodeId) -> Kind
         ensures { result ≡ kind_of self.now.fixed.topology node }
     {
         self.topology.kind(node)
     }
 
+    /// The place of a slave, if the chip has it.
     pub fn slave_place(&self, node: NodeId) -> Option<usize>
         ensures { result ≡ slave_place node self.now }
     {
         self.topology.slave_place(node)
     }
 
+    /// The place of a configured master, if the number is that of one.
     pub fn master_place(&self, node: NodeId) -> Option<usize>
         ensures { result ≡ master_place node self.now }
     {
