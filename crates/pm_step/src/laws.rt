@@ -19,7 +19,7 @@ use pm_rows::{rows_stay_sound, shifts_leave_others};
 use pm_state::loads_are_sound;
 
 /// The book at load is sound, each event keeps a book so, in a sound book a master has a row on a slave
-/// exactly where the object in force permits the pair, and after a restart of all a sound book is the book at load with
+/// exactly if the object in force permits the pair, and after a restart of all a sound book is the book at load with
 /// that object in force.
 pub fn books_stay_sound()
     ensures load { (object : Object) (attached : List Attached) (topology : Topology)

@@ -133,7 +133,7 @@ fn take(
     happen(tables, event);
 }
 
-/// A place for a message with the verdict on it: that of the last one, where there is one, so that it isn't made
+/// A place for a message with the verdict on it: that of the last one, if there is one, so that it isn't made
 /// anew for each.
 fn make_place(taken: &mut Option<Served>)
     ensures { is_some taken.new ≡ true }
@@ -224,7 +224,7 @@ fn may_move(event: &Event, served: &Option<Served>) -> bool
     }
 }
 
-/// Whether an event may have stages, by the verdict on its message. Where it may not, the book stays but for
+/// Whether an event may have stages, by the verdict on its message. If it may not, the book stays but for
 /// what is told.
 fn may_change(event: &Event, served: &Option<Served>) -> bool
     ensures { result ≡ may_change event.now served.now }
@@ -350,6 +350,7 @@ fn turns_modes(call: &Call) -> bool
     matches!(call, Call::RequestWakeup { .. })
 }
 
+/// What a change of one row touches: the slave at this place, or all if that isn't known.
 fn touched_at(place: Option<usize>) -> Touched
     ensures { result ≡ touched_at place }
 {
