@@ -76,7 +76,7 @@ pub record TableLaws (T : Type 0) : Type 0 where
       → units_in (with_value unit value entries) ≡ units_in entries
   pub made_units : (f : Unit → T → T) (entries : List (Unit × T)) → units_in (mapped f entries) ≡ units_in entries
 
--- the same by places: in a table whose units rise, to set the value at the place of a unit is to set that of the unit
+-- in a table whose units rise, to set the value at the place of a unit is to set that of the unit
 pub record TablePlaceLaws (T : Type 0) : Type 0 where
   pub set : (place : ℕ) (value : T) (entries : List (Unit × T)) (other : ℕ)
       → slice_get (with_value_at place value entries) other

@@ -59,6 +59,7 @@ impl Topology {
         self.check_missing()
     }
 
+    /// The first power node that breaks a rule, with the first rule that it breaks.
     fn check_powers(&self) -> Result<(), TopoFault>
         ensures { let first = first_at (power_cause self.now) 0 self.now.powers in
             MatchResult result (λ _. first ≡ None) (λ fault. first ≡ Some fault) }
@@ -71,6 +72,7 @@ impl Topology {
         Ok(())
     }
 
+    /// The first processor that breaks a rule, with the first rule that it breaks.
     fn check_procs(&self) -> Result<(), TopoFault>
         ensures { let first = first_at (proc_cause self.now) 0 self.now.procs in
             MatchResult result (λ _. first ≡ None) (λ fault. first ≡ Some fault) }
@@ -83,6 +85,7 @@ impl Topology {
         Ok(())
     }
 
+    /// The first slave that breaks a rule, with the first rule that it breaks.
     fn check_slaves(&self) -> Result<(), TopoFault>
         ensures { let first = first_at (slave_cause self.now) 0 self.now.slaves in
             MatchResult result (λ _. first ≡ None) (λ fault. first ≡ Some fault) }
@@ -95,6 +98,7 @@ impl Topology {
         Ok(())
     }
 
+    /// The first reset line that breaks a rule, with the first rule that it breaks.
     fn check_lines(&self) -> Result<(), TopoFault>
         ensures { let first = first_at (line_cause self.now) 0 self.now.lines in
             MatchResult result (λ _. first ≡ None) (λ fault. first ≡ Some fault) }
@@ -107,6 +111,7 @@ impl Topology {
         Ok(())
     }
 
+    /// The first master that breaks a rule, with the first rule that it breaks.
     fn check_masters(&self) -> Result<(), TopoFault>
         ensures { let first = first_at (master_cause self.now) 0 self.now.masters in
             MatchResult result (λ _. first ≡ None) (λ fault. first ≡ Some fault) }
@@ -256,6 +261,7 @@ impl Topology {
         nodes.iter().any(|node| self.is_stranger(master, *node))
     }
 
+    /// Whether a master may not have a processor: it isn't there, or its number is another master's.
     fn is_stranger(&self, master: NodeId, node: NodeId) -> bool
         ensures { result ≡ is_bad_member self.now master.0 node }
     {
@@ -263,24 +269,28 @@ impl Topology {
     }
 }
 
+/// Whether a power node has this number.
 pub(crate) fn has_power(powers: &[PowerDef], node: NodeId) -> bool
     ensures { result ≡ has_power node.0 powers.now }
 {
     powers.iter().any(|power| power.node == node)
 }
 
+/// Whether a processor has this number.
 pub(crate) fn has_proc(procs: &[ProcDef], node: NodeId) -> bool
     ensures { result ≡ has_proc node.0 procs.now }
 {
     procs.iter().any(|proc| proc.node == node)
 }
 
+/// Whether a slave has this number.
 pub(crate) fn has_slave(slaves: &[SlaveDef], node: NodeId) -> bool
     ensures { result ≡ has_slave node.0 slaves.now }
 {
     slaves.iter().any(|slave| slave.node == node)
 }
 
+/// Whether there is a reset line of this number.
 pub(crate) fn has_line(lines: &[LineDef], line: LineId) -> bool
     ensures { result ≡ list_any (λ e. e.line.0 == line.0) lines.now }
 {
@@ -307,6 +317,7 @@ fn last_is_full(states: &[SlaveState]) -> bool
     }
 }
 
+/// Whether a last state has no latency, and each capability of the others.
 fn is_full(states: &[SlaveState], last: &SlaveState) -> bool
     ensures { result ≡ is_full states.now last.now }
 {

@@ -22,8 +22,7 @@ pub fn unit_maps<T>()
     ensures { TableLaws T }
 {}
 
-/// The same by places: in a table whose units rise, to set the value at the place of a unit is to set
-/// that of the unit.
+/// In a table whose units rise, to set the value at the place of a unit is to set that of the unit.
 pub fn unit_map_places<T>()
     ensures { TablePlaceLaws T }
 {}

@@ -17,12 +17,14 @@ const RPU_0: NodeId = NodeId(7);
 
 const RPU_1: NodeId = NodeId(8);
 
+/// Whether a master can have this number: 1, 6, 7 or 8.
 pub(crate) fn is_master_number(node: NodeId) -> bool
     ensures { result ≡ is_master_number node.0 }
 {
     node == APU || node == RPU || node == RPU_0 || node == RPU_1
 }
 
+/// Whether a master has this number.
 pub(crate) fn has_master(masters: &[MasterDef], node: NodeId) -> bool
     ensures { result ≡ list_any (λ e. e.node.0 == node.0) masters.now }
 {
@@ -61,12 +63,14 @@ pub(crate) fn overlaps(master: &MasterDef, others: &[MasterDef]) -> bool
     others.iter().any(|other| overlap(master, other))
 }
 
+/// Whether two masters have a processor in common and may not.
 fn overlap(one: &MasterDef, other: &MasterDef) -> bool
     ensures { result ≡ overlap one.now other.now }
 {
     share(one.procs.as_slice(), other.procs.as_slice()) && !may_share(one.node, other.node)
 }
 
+/// Whether one of two masters is the lock-step pair, and the other a half of it.
 fn may_share(one: NodeId, other: NodeId) -> bool
     ensures { result ≡ is_half_of one.0 other.0 || is_half_of other.0 one.0 }
 {
@@ -80,6 +84,7 @@ fn share(nodes: &[NodeId], others: &[NodeId]) -> bool
     nodes.iter().any(|node| has_node(others, *node))
 }
 
+/// Whether a node is among these.
 fn has_node(nodes: &[NodeId], node: NodeId) -> bool
     ensures { result ≡ list_any (λ q. q.0 == node.0) nodes.now }
 {

@@ -103,24 +103,28 @@ fn entry_of(masters: &[MasterDef], master: NodeId) -> Option<&MasterDef>
     masters.iter().find(|def| def.node.0 == master.0)
 }
 
+/// The place of a processor, if there is one of this number.
 fn proc_place(procs: &[ProcDef], n: NodeId) -> Option<usize>
     ensures { result ≡ proc_place procs.now n.0 }
 {
     procs.iter().position(|proc| proc.node == n)
 }
 
+/// The place of a slave, if there is one of this number.
 fn slave_place(slaves: &[SlaveDef], n: NodeId) -> Option<usize>
     ensures { result ≡ slave_place slaves.now n.0 }
 {
     slaves.iter().position(|slave| slave.node == n)
 }
 
+/// The place of a power node, if there is one of this number.
 fn power_place(powers: &[PowerDef], n: NodeId) -> Option<usize>
     ensures { result ≡ power_place powers.now n.0 }
 {
     powers.iter().position(|power| power.node == n)
 }
 
+/// The place of the parent of the power node at a place, if it has one.
 fn parent_of_power(powers: &[PowerDef], place: usize) -> Option<usize>
     ensures { result ≡ power_parent powers.now place }
 {

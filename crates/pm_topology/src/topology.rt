@@ -74,7 +74,7 @@ impl Topology {
     ///
     /// # Errors
     ///
-    /// `NoMemory` where there is not enough memory.
+    /// `NoMemory` if there is not enough memory.
     pub fn copy(&self, alloc: Global) -> Result<Topology, NoMemory>
         ensures { IfOk result (λ copied. copied ≡ self.now) }
     {
@@ -105,6 +105,7 @@ pub fn list_of<T: Copy + Drop>(alloc: Global, items: &[T]) -> Result<List<T>, No
     Ok(list)
 }
 
+/// A copy of the slaves with their states.
 fn copy_of_slaves(alloc: Global, slaves: &[SlaveDef]) -> Result<List<SlaveDef>, NoMemory>
     ensures { IfOk result (λ list. list ≡ slaves.now) }
 {
@@ -115,6 +116,7 @@ fn copy_of_slaves(alloc: Global, slaves: &[SlaveDef]) -> Result<List<SlaveDef>, 
     Ok(list)
 }
 
+/// A copy of a slave with its states.
 fn copy_of_slave(alloc: Global, slave: &SlaveDef) -> Result<SlaveDef, NoMemory>
     ensures { IfOk result (λ copied. copied ≡ slave.now) }
 {
@@ -125,6 +127,7 @@ fn copy_of_slave(alloc: Global, slave: &SlaveDef) -> Result<SlaveDef, NoMemory>
     })
 }
 
+/// A copy of the masters with their processors.
 fn copy_of_masters(alloc: Global, masters: &[MasterDef]) -> Result<List<MasterDef>, NoMemory>
     ensures { IfOk result (λ list. list ≡ masters.now) }
 {
@@ -135,6 +138,7 @@ fn copy_of_masters(alloc: Global, masters: &[MasterDef]) -> Result<List<MasterDe
     Ok(list)
 }
 
+/// A copy of a master with its processors.
 fn copy_of_master(alloc: Global, master: &MasterDef) -> Result<MasterDef, NoMemory>
     ensures { IfOk result (λ copied. copied ≡ master.now) }
 {

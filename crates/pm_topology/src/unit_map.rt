@@ -48,7 +48,7 @@ impl<T> UnitMap<T> {
         self.entries.len()
     }
 
-    /// The place of a unit, counted from 0, where it is there.
+    /// The place of a unit, counted from 0, if it is there.
     #[inline]
     pub fn place(&self, unit: Unit) -> Option<usize>
         ensures place { result ≡ place_of self.now unit }
@@ -85,7 +85,7 @@ impl<T: Copy + Drop> UnitMap<T> {
     ///
     /// # Errors
     ///
-    /// `NoMemory` where there is not enough memory.
+    /// `NoMemory` if there is not enough memory.
     pub fn load(alloc: Global, t: &Topology, value: T) -> Result<UnitMap<T>, NoMemory>
         ensures entries { IfOk result (λ map. map ≡ all_at value (units_of t.now)) }
         ensures values { IfOk result (λ map. (unit : Part)
@@ -96,7 +96,7 @@ impl<T: Copy + Drop> UnitMap<T> {
         Ok(map)
     }
 
-    /// The value of a unit, where it is there.
+    /// The value of a unit, if it is there.
     pub fn get(&self, unit: Unit) -> Option<T>
         ensures value { result ≡ value_of self.now unit }
         ensures rising { rises (units_in self.now) ≡ true }
@@ -106,7 +106,7 @@ impl<T: Copy + Drop> UnitMap<T> {
         Some(value)
     }
 
-    /// The unit at a place and its value, where there is one.
+    /// The unit at a place and its value, if there is one.
     pub fn entry(&self, place: usize) -> Option<(Unit, T)>
         ensures { result ≡ slice_get self.now place }
     {
@@ -116,7 +116,7 @@ impl<T: Copy + Drop> UnitMap<T> {
         }
     }
 
-    /// Sets the value of a unit. Nothing changes where the unit isn't there.
+    /// Sets the value of a unit. Nothing changes if the unit isn't there.
     pub fn set(&mut self, unit: Unit, value: T)
         ensures entries { self.new ≡ with_value unit value self.old }
         ensures values { (other : Part) → value_of self.new other
@@ -182,6 +182,7 @@ fn node_places<T>(
     Ok(places)
 }
 
+/// An entry for each of these units, with this value.
 fn filled_entries<T: Copy + Drop>(
     alloc: Global,
     units: &[Unit],
