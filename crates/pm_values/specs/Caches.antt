@@ -43,7 +43,7 @@ kind_value states procs ups (Power w) = cond (unwrap_or (slice_get ups w) false)
 kind_value states procs ups (Proc p) = cond (is_awake (mode_at p procs)) 1 0
 kind_value states procs ups Unknown = 0
 
--- the same of a unit, by the reset lines too
+-- the value of a unit, by the reset lines too
 abbrev pub unit_value : List ℕ → List Processor → List Bool → List Bool → UnitKind → ℕ
 unit_value states procs ups lines (Entry kind) = kind_value states procs ups kind
 unit_value states procs ups lines (Reset place) = line_at place lines
@@ -272,7 +272,7 @@ HaveSettled book downs caches =
     AreSettled (value_by book.fixed book.now.core) (freed_by caches.used.items book.now.core.rows) downs
     book.now.core.procs caches.kinds.awake caches.kinds.items caches.values
 
--- the same of what is kept, by the processors and the power nodes of a book
+-- what is kept of the other units stays, by the processors and the power nodes of a book
 abbrev pub OthersStay : State → List Bool → Caches → Type 0
 OthersStay book downs caches =
     HaveStayed downs book.now.core.procs (ups caches.power) caches.kinds.awake caches.kinds.items caches.values

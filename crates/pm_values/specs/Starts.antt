@@ -25,7 +25,7 @@ start_at down after node p =
     then record { proc = node; address = (proc_at p after.now.core.procs).address } ∷ []
     else []
 
--- the same by the kind of the node: only a processor starts
+-- the start of a node by its kind: only a processor starts
 abbrev pub start_by : (ℕ → Bool) → State → NodeId → Kind → List Start
 start_by down after node (Proc p) = start_at down after node p
 start_by down after node _ = []

@@ -113,6 +113,6 @@ is_as_kept states used s book =
     (state_at s (slice_get book.fixed.topology.slaves s) book.now.core == unwrap_or (slice_get states s) 0)
     && not (freed_by used book.now.core.rows (Entry (Slave s)))
 
--- the same by what is kept
+-- the state of a slave rests, by what is kept
 abbrev pub rests : ℕ → State → Caches → Bool
 rests s book caches = is_as_kept caches.states.items caches.used.items s book

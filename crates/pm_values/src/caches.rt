@@ -245,12 +245,14 @@ fn flags_of(
     Ok((states, needs, runs, used))
 }
 
+/// As many zeros.
 fn zeros(alloc: Global, count: usize) -> Result<Vec<u32>, NoMemory>
     ensures { IfOk result (λ zeros. length zeros.items ≡ count) }
 {
     Vec::from_elem(alloc, 0, count).map_err(|_| NoMemory)
 }
 
+/// As many units that need no power.
 fn no_needs(alloc: Global, count: usize) -> Result<Vec<bool>, NoMemory>
     ensures { IfOk result (λ needs. length needs.items ≡ count) }
 {

@@ -15,6 +15,7 @@ pub(crate) fn put(power: &mut Power, place: usize, on: bool)
     put_by::<Brand>(power, place, on, Blank::new(1));
 }
 
+/// Sets whether a unit below a power node needs power. The steps of a counter are taken that the caller names.
 fn put_by<L: Ledger>(power: &mut Power, place: usize, on: bool, blank: Blank)
     requires name { blank.name ≡ L.name }
     requires parts { blank.parts ≡ L.parts }
@@ -31,6 +32,7 @@ pub(crate) fn recompute(power: &mut Power, slaves: &[bool], procs: &[bool])
     recompute_by::<Brand>(power, slaves, procs, Blank::new(1));
 }
 
+/// Sets anew which slaves and processors need power. The steps of a counter are taken that the caller names.
 fn recompute_by<L: Ledger>(power: &mut Power, slaves: &[bool], procs: &[bool], blank: Blank)
     requires name { blank.name ≡ L.name }
     requires parts { blank.parts ≡ L.parts }

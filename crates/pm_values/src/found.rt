@@ -84,6 +84,7 @@ impl<'a> Found<'a> {
     }
 }
 
+/// The value of the reset line at a place; 0 if there is none.
 fn line_at(place: Option<usize>, resets: &Resets) -> u32
     ensures { result ≡ line_at place resets.now }
 {

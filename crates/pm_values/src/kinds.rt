@@ -154,6 +154,7 @@ fn others_and_marks(alloc: Global, kinds: &[UnitKind]) -> Result<(Vec<Other>, Ma
     with(others, awake)
 }
 
+/// What each unit is, in their order.
 fn kinds_of(alloc: Global, t: &Topology, units: &[Unit]) -> Result<Vec<UnitKind>, NoMemory>
     ensures { IfOk result (λ kinds. kinds.items ≡ map (kind_of_unit t.now) units.now) }
 {
@@ -164,6 +165,7 @@ fn kinds_of(alloc: Global, t: &Topology, units: &[Unit]) -> Result<Vec<UnitKind>
     Ok(kinds)
 }
 
+/// What a unit is: a node of its kind, or a reset line, with its place.
 fn kind_of_unit(t: &Topology, unit: Unit) -> UnitKind
     ensures { result ≡ kind_of_unit t.now unit }
 {
@@ -270,6 +272,7 @@ fn wake_changed(
     }
 }
 
+/// The entry at a place.
 fn other_at(others: &[Other], i: usize) -> Other
     requires { i < length others.now }
     ensures { slice_get others.now i ≡ Some result }
