@@ -51,7 +51,7 @@ pub fn wrong_answer(desk: &mut Desk, cases: &[Case]) -> Option<usize> {
     None
 }
 
-/// The same of a book that has settled over an object of these words.
+/// The place of the first message that is answered otherwise, over a settled book of an object of these words.
 pub fn wrong_answer_over(
     alloc: Global,
     words: &[u32],

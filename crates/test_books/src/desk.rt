@@ -39,7 +39,7 @@ pub fn desk_with(alloc: Global, object: Object, chip: Topology) -> Result<Box<De
     desk_beside(alloc, object, List::new(alloc), chip)
 }
 
-/// The same where objects are attached.
+/// The book at load with attached objects, on the heap.
 pub fn desk_beside(
     alloc: Global,
     object: Object,

@@ -56,7 +56,7 @@ pub fn wrong_notice(desk: &mut Desk, notices: &[Notice]) -> Option<usize> {
     None
 }
 
-/// The same of a book that has settled over an object of these words.
+/// The place of the first step that tells otherwise, over a settled book of an object of these words.
 pub fn wrong_notice_over(
     alloc: Global,
     words: &[u32],

@@ -21,7 +21,7 @@ pub const SMALL_OBJECT: &[u32] = &[
 ///
 /// # Errors
 ///
-/// `NoMemory` where there is not enough memory.
+/// `NoMemory` if there is not enough memory.
 #[tactic(auto, using(crate::proofs::SmallTableLaw::small_sound), unfolding(crate::specs::SmallTable::small))]
 pub fn small_chip(alloc: Global) -> Result<Topology, NoMemory>
     ensures table { IfOk result (λ topology. topology ≡ small) }

@@ -47,7 +47,7 @@ pub fn wrong_turn(desk: &mut Desk, turns: &[Turn]) -> Option<usize> {
     None
 }
 
-/// The same of a book that has settled over an object of these words.
+/// The place of the first wrong turn, over a settled book of an object of these words.
 pub fn wrong_turn_over(
     alloc: Global,
     words: &[u32],
