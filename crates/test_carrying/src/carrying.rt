@@ -60,7 +60,7 @@ fn started<D: Device>(
     }
 }
 
-/// The same over the chip.
+/// A drive over the chip's own table, at its load.
 fn started_over<D: Device>(alloc: Global, object: Object, dev: &mut D) -> Result<Drive, NoMemory> {
     match chip(alloc) {
         Ok(chip) => started(alloc, object, chip, dev),
@@ -71,7 +71,7 @@ fn started_over<D: Device>(alloc: Global, object: Object, dev: &mut D) -> Result
     }
 }
 
-/// The same once master 7 is started.
+/// A drive over the chip's own table in which master 7 is started.
 fn drive_of<D: Device>(alloc: Global, dev: &mut D) -> Result<Box<Drive>, Fail> {
     let object = object_of(alloc, OBJECT)?;
     let drive = started_over(alloc, Box::into_inner(object), dev)?;
