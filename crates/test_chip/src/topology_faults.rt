@@ -6,7 +6,7 @@ use pm_topology::{TopoCause, TopoFault, Topology};
 use std::alloc::Global;
 use std::test::Fail;
 
-/// The first fault, where there is one.
+/// The first fault, if there is one.
 pub(crate) type Found = Option<(TopoCause, usize)>;
 
 /// The first fault of the topology with these lists.
