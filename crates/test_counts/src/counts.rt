@@ -78,7 +78,7 @@ fn up_and_down<L: Ledger>(counts: &mut Counts, steps: &mut Steps<L>)
     counts.sub(1, steps);
 }
 
-/// The same with a counter of its own.
+/// Adds and takes away so with a counter of its own.
 fn turned<L: Ledger>(counts: &mut Counts, blank: Blank)
     requires counts { counts.old ≡ replicate 3 0 }
     requires name { blank.name ≡ L.name }
