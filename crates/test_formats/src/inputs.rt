@@ -100,7 +100,7 @@ fn wrong_prefix(alloc: Global, inputs: &mut MemInputs) -> Result<Option<usize>, 
     Ok(None)
 }
 
-/// The same four bytes under three names.
+/// Three names that hold four equal bytes.
 fn three_inputs(alloc: Global) -> Result<MemInputs, Fail> {
     let mut inputs = MemInputs::new(alloc, &[(0, 0), (1, 4)])?;
     for name in ["front", "end", "none"] {
