@@ -95,7 +95,7 @@ fn waits_and_interrupts() -> [(&'static [u8], Event); 9] {
     ]
 }
 
-/// The same of messages that masters put into their boxes, and of boxes that are served.
+/// A line, and what happens in it: a master puts a message into its box, or the boxes are served.
 fn posts() -> [(&'static [u8], Event); 5] {
     [
         (
@@ -133,7 +133,7 @@ fn posts() -> [(&'static [u8], Event); 5] {
     ]
 }
 
-/// The same of power calls of processors.
+/// A line, and what happens in it: a processor makes a power call.
 fn power_calls() -> [(&'static [u8], Event); 3] {
     [
         (
@@ -163,7 +163,7 @@ fn power_calls() -> [(&'static [u8], Event); 3] {
     ]
 }
 
-/// The same of timed tasks that are started or taken out, and of nodes that break or are mended.
+/// A line, and what happens in it: a timed task is started or taken out, or a node breaks or is mended.
 fn tasks_and_breaks() -> [(&'static [u8], Event); 7] {
     [
         (
