@@ -6,10 +6,10 @@ use std::test::Fail;
 /// Numbers, and what is read of each in turn into four bytes, before any name was begun.
 static BEFORE: [(u32, &str); 2] = [(0, ""), (1, "")];
 
-/// The same after a name was begun: the input holds `abcdef`.
+/// Such numbers and reads after a name was begun: the input holds `abcdef`.
 static AFTER: [(u32, &str); 5] = [(0, "abcd"), (1, ""), (0, "ef"), (0, ""), (16, "")];
 
-/// The same after another name was begun.
+/// Such numbers and reads after another name was begun.
 static AGAIN: [(u32, &str); 2] = [(0, "abcd"), (0, "ef")];
 
 fn wrong_read(input: &mut OneInput, reads: &[(u32, &str)]) -> Option<usize> {
