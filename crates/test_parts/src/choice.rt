@@ -57,7 +57,7 @@ static CHOICES: [(usize, u32, &[Option<u32>], [usize; 6]); 21] = [
     (EXTERNAL, 7, OF_BLOCK, [0, 0, 0, 0, 0, 0]),
 ];
 
-/// The states of the slave at a place, and none where there is no slave.
+/// The states of the slave at a place, and none if there is no slave.
 fn states(chip: &Topology, place: usize) -> &[SlaveState] {
     match chip.slaves.as_slice().get(place) {
         Some(slave) => slave.states.as_slice(),

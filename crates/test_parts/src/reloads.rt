@@ -171,7 +171,7 @@ static ANEW_USED: [RowSeed; 1] = [RowSeed {
     hold: false,
 }];
 
-/// The same pair, and nobody uses the slave.
+/// That pair, if nobody uses the slave.
 static ANEW: [RowSeed; 1] = [RowSeed {
     master: 1,
     slave: 0,
