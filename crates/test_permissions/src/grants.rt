@@ -1,4 +1,4 @@
-//! The same permissions, looked up by the places of masters and units.
+//! Permissions, looked up by the places of masters and units.
 
 use crate::chip::chip;
 use crate::permissions::{LISTS, Permission, Wish, object_of};
@@ -25,7 +25,7 @@ fn slave_of(chip: &Topology, node: u32) -> Option<usize> {
     }
 }
 
-/// The same by places: nothing where one of them isn't there.
+/// What is permitted, looked up by places: nothing if one of them isn't there.
 fn looked_up(grants: &Grants, object: &Object, chip: &Topology, wish: Wish) -> Option<bool> {
     match wish {
         Wish::Use(m, slave) => {
