@@ -132,7 +132,7 @@ fn the_book_is_the_same_whichever_command_fails(rt: HostRuntime) -> Result<(), F
 /// Numbers of scripts that are made, and how many commands the device is given in the run of each.
 static MADE: [(u32, u32); 3] = [(8, 18), (50, 30), (60, 26)];
 
-/// The same of the script that is made of so many lines, where the device is given so many commands.
+/// Checks each command of the script that is made of a number, in whose run the device is given so many commands.
 fn check_made(rt: &(impl Abort + AllocGlobal), number: u32, commands: u32) -> Result<(), Fail> {
     let script = make(rt.alloc(), number)?;
     let whole = seen_with(rt, &script, &[])?;
