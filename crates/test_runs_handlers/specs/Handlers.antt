@@ -11,6 +11,6 @@ told message =
       words = message.api ∷ ((message.api + message.api) % 2 ^ 32) ∷ slice_index message.args 4 ∷ [];
     }
 
--- the same word to all
+-- one word to all
 abbrev pub constant : ℕ → Message → Response
 constant word message = record { status = 0; words = word ∷ 0 ∷ 0 ∷ [] }
