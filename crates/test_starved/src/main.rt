@@ -13,7 +13,7 @@
 //! | `after N` | after N of the allocations after the run the next one was refused |
 //! | `wrong EXIT` | the run came to something else |
 //!
-//! The exit status is 1 where there was no memory for what a run needs.
+//! The exit status is 1 if there was no memory for what a run needs.
 #![tactic(auto)]
 
 mod asked;
