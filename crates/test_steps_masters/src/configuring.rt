@@ -16,7 +16,7 @@ static LOADED: [u32; 26] = [
     33, 1, 0x101, 0x107, 1, 0,
 ];
 
-/// The same masters, which may use slaves 19 and 33, of which the first can't be shared. Both have both in use. Nobody may
+/// Masters 1 and 7, which may use slaves 19 and 33, of which the first can't be shared. Both have both in use. Nobody may
 /// set the configuration.
 static OTHER: [u32; 35] = [
     2, 3, 1, 0x101, 2, 1, 0x1, 100, 0, 0, 7, 0x100, 100, 0, 0, 0x102, 2, 19, 0, 0x101, 33, 1,
