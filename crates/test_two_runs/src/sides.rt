@@ -90,12 +90,12 @@ const CONFIGURED: &[u32] = &[
     2, 3, 1, 0x101, 2, 1, 0x1, 100, 0, 0, 8, 0x200, 100, 0, 0, 0x102, 1, 46, 0, 0x1, 0x107, 0x1, 0,
 ];
 
-/// The same masters, and slave 46, which 8 alone may use.
+/// Masters 1 and 8, and slave 46, which 8 alone may use.
 const EXCHANGED: &[u32] = &[
     2, 2, 1, 0x101, 2, 1, 0x1, 100, 0, 0, 8, 0x200, 100, 0, 0, 0x102, 1, 46, 0, 0x200,
 ];
 
-/// Both books at load over an object in which master 1 may set the configuration, where one is attached in which slave 46
+/// Both books at load over an object in which master 1 may set the configuration, if one is attached in which slave 46
 /// is master 8's.
 pub(crate) fn configured_sides(alloc: Global, m: NodeId) -> Result<Sides, Fail>
     ensures { IfOk result (λ sides. AreSides m sides.loud.value.book sides.quiet.value.book) }
@@ -138,7 +138,7 @@ fn sides_over(
     Ok(Sides { loud, quiet })
 }
 
-/// The event in the one book, and in the other the same event, or nothing where it is a message of the master.
+/// The event in the one book, and in the other the same event, or nothing if it is a message of the master.
 fn step(loud: &mut Desk, quiet: &mut Desk, m: NodeId, event: &Event)
     requires { AreSides m loud.old.book quiet.old.book }
     ensures { AreSides m loud.new.book quiet.new.book }
