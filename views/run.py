@@ -37,20 +37,29 @@ def open_input(word: str) -> Optional[int]:
         return None
 
 
+def keep(number: int, piece: bytes) -> None:
+    """Writes all of these bytes to a file of this program's own."""
+    left = memoryview(piece)
+    try:
+        while left:
+            left = left[os.write(number, left) :]
+    except OSError as fault:
+        raise Refused(f"the input can't be kept: {fault.strerror}") from None
+
+
 def spooled(given: int, limit: int) -> str:
     """An open input, up to a byte past the limit, as a file that can be read again."""
-    try:
-        number = os.memfd_create("input")
-        left = limit + 1
-        while left:
+    number, left = os.memfd_create("input"), limit + 1
+    while left:
+        try:
             piece = os.read(given, min(left, 1 << 20))
-            if not piece:
-                break
-            os.writev(number, [piece])
-            left -= len(piece)
-    except OSError:
-        # (the program finds the same, and says so)
-        return f"/dev/fd/{given}"
+        except OSError:
+            # (the program finds the same, and says so)
+            return f"/dev/fd/{given}"
+        if not piece:
+            break
+        keep(number, piece)
+        left -= len(piece)
     os.set_inheritable(number, True)
     return f"/dev/fd/{number}"
 

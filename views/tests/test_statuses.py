@@ -160,6 +160,12 @@ class Statuses(Case):
             os.close(full)
             self.assertEqual((ended.returncode, ended.stderr), (5, b"standard output can't be written: File too large\n"), kind)
 
+    def test_an_input_that_can_not_be_kept(self):
+        words = ["prlimit", "--fsize=1000", sys.executable, os.path.join(VIEWS, "run.py"), os.environ["PMU_PROGRAM"], "replay", LABORATORY, "-"]
+        script = b"ipi 1 3 33\n" * 100 + b"ipi 1 3 39\n" * 200_000
+        ended = subprocess.run(words, input=script, capture_output=True, check=False)
+        self.assertEqual((ended.returncode, ended.stdout, ended.stderr), (125, b"", b"pmu: the input can't be kept: File too large\n"))
+
     def test_a_form_without_words(self):
         program_ = os.environ["PMU_PROGRAM"]
         for words, wanted in ((["table"], program("table")), (["table", "more"], (1, b"", b"'table' takes no word after it, and 1 is given\n"))):
