@@ -85,6 +85,8 @@ def outage_of(line: str) -> Optional[Outage]:
 
 def node_of(line: str) -> Optional[int]:
     """The node of a line about the device, or None of any other."""
+    if not line.lstrip(" \t").startswith(ABOUT_DEVICE):
+        return None
     words = texts.words_of(line)
     return texts.number_of(words[1]) if len(words) > 1 and words[0] in ABOUT_DEVICE else None
 
@@ -121,7 +123,8 @@ def turned(script: Sequence[str], ended: dict[int, int]) -> Turned:
             made.lines.append(f"mend {mended}  # the outage of {mended} ends")
             made.numbers.append(number)
             del last[mended]
-        outage, node = outage_of(line), node_of(line)
+        node = node_of(line)
+        outage = None if node is None else outage_of(line)
         if node is not None:
             last.pop(node, None)
         if outage and (outage.lines or number in ended):
@@ -144,7 +147,9 @@ def singles(script: Sequence[str]) -> Iterator[Single]:
     begun: dict[int, int] = {}  # of a node, the line `fail` that is in force
     for number, line in enumerate(script, 1):
         node = node_of(line)
-        if node is not None and node in begun:
+        if node is None:
+            continue
+        if node in begun:
             yield Single(node, begun.pop(node), number - 1)
         outage = outage_of(line)
         if outage and outage.lines is None:
@@ -155,8 +160,10 @@ def singles(script: Sequence[str]) -> Iterator[Single]:
 def refusals(written: Written, numbers: Sequence[int]) -> Iterator[tuple[int, int]]:
     """Each command on a node that the device refused: the line of the script, and the node."""
     for line in written:
-        step, kind, *words = line.split()
-        if kind == "fail" and step not in ("0", "end"):
+        if " fail " not in line:
+            continue
+        step, _, *words = line.split()
+        if step != "0":
             yield numbers[int(step) - 1], int(words[0])
 
 

@@ -172,6 +172,10 @@ class Outages(Case):
         self.assertIn("17 expectations met", page)
         said = self.text("lint", "--ignore", "forces-a-master,leads-to-all", LABORATORY, self.script)
         self.assertEqual(said, f"{self.script}:11: wfi 99: it does nothing: the chip has no node 99 [no-effect]\n")
+        typo = self.file("typo.script", "fail 99 once\nbreak 98 for 2\nfail RPU once\n")
+        said = self.text("lint", "--ignore", "forces-a-master,leads-to-all", LABORATORY, typo)
+        wanted = [f"{typo}:{k}: {line}: it does nothing: the chip has no node" for k, line in ((1, "fail 99 once"), (2, "break 98 for 2"))]
+        self.assertEqual([line.rpartition(" ")[0].rpartition(" ")[0] for line in said.splitlines()], wanted)
 
     # In numbers, and what is wrong.
 
