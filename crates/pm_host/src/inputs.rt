@@ -79,6 +79,7 @@ impl<'a, R: Files> HostInputs<'a, R> {
 impl<R: Files> Inputs for HostInputs<'_, R> {
     ghost state = { moment_of };
 
+    /// Opens a file by its name. Failed if the host doesn't, or gives no number that is free; then a fault is counted.
     #[tactic(auto, using(pm_io::proofs::CallsLemmas::below_still))]
     fn begin(&mut self, name: &str) -> Result<u32, Failed> {
         match self.open(name) {
@@ -91,6 +92,7 @@ impl<R: Files> Inputs for HostInputs<'_, R> {
         }
     }
 
+    /// Reads some bytes of a file that was begun, 0 at its end. Failed if the host fails; then a fault is counted.
     #[tactic(auto, using(pm_io::proofs::CallsLemmas::below_still))]
     fn read(&mut self, id: u32, buf: &mut [u8]) -> Result<usize, Failed> {
         match self.read_some(id, buf) {

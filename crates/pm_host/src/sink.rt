@@ -94,7 +94,7 @@ impl<W: Write + Drop> HostSink<W> {
         })
     }
 
-    /// Hands on what is left at the end of a run. Where that isn't all written, Done becomes WriteFault. Any
+    /// Hands on what is left at the end of a run. If that isn't all written, Done becomes WriteFault. Any
     /// other exit does where a byte before the last piece was lost: if the last piece alone was, which is the line
     /// of a fault, the exit of that fault stays.
     pub fn finish(&mut self, exit: Exit) -> Exit
@@ -125,7 +125,7 @@ impl<W: Write + Drop> HostSink<W> {
         }
     }
 
-    /// Takes first bytes of a piece, or fails. It takes 0 where the writer took 0.
+    /// Takes first bytes of a piece, or fails. It takes 0 if the writer took 0.
     #[inline]
     fn take(&mut self, piece: &[u8]) -> Option<usize>
         ensures faults { self.new.faults ≡ self.old.faults }
@@ -202,6 +202,7 @@ impl<W: Write + Drop> Sink for HostSink<W> {
 
     ghost state = { moment_of };
 
+    /// Gathers a piece, and hands on what is gathered once it is full. Failed if the host doesn't take that.
     fn write(&mut self, piece: &[u8]) -> Result<usize, Failed>
         ensures bound { IfOk result (λ count. count ≤ length piece.now) }
         ensures cause { HasCause self.old.faults self.new.faults result }

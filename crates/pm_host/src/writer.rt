@@ -46,7 +46,7 @@ impl<W: Write + Drop> LoggedWriter<W> {
         }
     }
 
-    /// Writes first bytes of a piece, and answers how many. None where the writer failed.
+    /// Writes first bytes of a piece, and answers how many. None if the writer failed.
     pub(crate) fn write(&mut self, piece: &[u8]) -> Option<usize>
         requires some { 0 < length piece.now }
         ensures bound { IfSome result (λ count. count ≤ length piece.now) }
