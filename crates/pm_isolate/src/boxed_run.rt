@@ -50,6 +50,7 @@ impl BoxedRun {
         Ok(BoxedRun { runner })
     }
 
+    /// The book as it is now.
     pub fn book(&self) -> &Book
         ensures { result.now ≡ self.now.book }
     {

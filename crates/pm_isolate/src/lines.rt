@@ -28,6 +28,7 @@ impl<'w> Follower for Watcher<'w> {
 
     ghost Follows = { Watches };
 
+    /// Steps both runs by a line.
     fn line(&mut self, _number: u32, event: &Event) -> Result<(), Failed> {
         self.worlds.step(self.m, event);
         Ok(())
