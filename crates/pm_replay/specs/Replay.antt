@@ -24,7 +24,7 @@ run_report c board s answers = record {
   fault = fault_at (1 + length s.events) s.stop;
 }
 
--- the same of a script over an object and a chip: its first lines attach what they attach before the load, and nothing
+-- the run of a script over an object and a chip: its first lines attach what they attach before the load, and nothing
 -- happens in them any more
 abbrev pub replay_report : Object → Topology → Standing → Script → List (List Bool) → Report
 replay_report object t board s answers = run_report (setup_for object t s.events) board (ran s) answers

@@ -118,7 +118,7 @@ module _ {O D : Type 0} (o : Sink.Ghosts O) (d : Device.Ghosts D) where
     pub given : Chain d.Does (orders_in then.outbox) from to
     pub writes : WritesOn o (step_text n then.outbox.done.items (notices_in then.outbox) (completed modules event then.outbox.answer)) so_far result old new
 
-  -- the same of core events one after another, whatever becomes of their text, from the last reply that was told before
+  -- the driven steps of core events one after another, whatever becomes of their text, from the last reply that was told before
   -- them to the last one that is told
   pub record RanCores (n : ℕ) (events : List Event) (book : State) (kept : Kept) (tree : Tree) (then : Progress) (modules : List Ranged)
       (reply told : Option Response) (so_far result : Result ⊤ Failed) (old new : O) (from to : D) : Type 0 where

@@ -51,6 +51,7 @@ impl<'e, 'o, 'd, 'm, 't, O: Sink, D: Device, H: Responder, T: Handler> Follower
 
     ghost Follows = { Plays O.Sink D.Device H.Responder T.Handler };
 
+    /// Runs a line of the script.
     #[inline(always)]
     fn line(&mut self, number: u32, event: &Event) -> Result<(), Failed> {
         run_line(
