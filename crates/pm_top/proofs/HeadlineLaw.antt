@@ -184,6 +184,7 @@ module _ {O D : Type 0} (o : Sink.Ghosts O) (d : Device.Ghosts D) (laws : Headli
   pub is_headline : IsHeadline o d object t board events sink sink' start device
   is_headline = record {
     answers = answers;
+    drove = drove;
     unfailing = is_unfailing;
     text = text;
     causes = laws.causes c (passed events);

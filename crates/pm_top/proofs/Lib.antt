@@ -3,6 +3,7 @@ pub mod CompleteLemmas
 pub mod DroveLemmas
 pub mod ExitsLemmas
 pub mod FitLemmas
+pub mod GivenLaw
 pub mod HeadlineLaw
 pub mod HeldWhole
 pub mod JobLemmas

@@ -35,7 +35,7 @@ use Rattle.pm_top.specs.Asked.{Says, if_read, laboratory_if, line_limit, lines_a
 use Rattle.pm_top.specs.Fit.{HoldsTopology}
 use Rattle.pm_top.specs.Job.{IsFaultOf}
 use Rattle.pm_top.specs.Reads.{IsFaultBehind, IsOfSource}
-use Rattle.pm_top.specs.Within.{IsNamed, IsSubject, ReadsAs, ReadsRest, ReadsSubject, ReadsThen, ReadsTopology, Takes}
+use Rattle.pm_top.specs.Within.{GivenFor, IsNamed, IsSubject, ReadsAs, ReadsRest, ReadsSubject, ReadsThen, ReadsTopology, Takes}
 use Rattle.pm_top.proofs.TakingLemmas.{taken_fault, taken_files, taken_later, taken_room, then_fault, then_files, then_held, then_later, then_room}
 
 pub err_is : {X Y : Type 0} {a b : Y} → ◌≡◌ {A = Result X Y} (Err a) (Err b) → a ≡ b
@@ -310,6 +310,7 @@ subject_read shown f ws name before between after object result called (inr read
   between = between;
   topology = rest.topology;
   read = subst (λ (name : List ℕ). Takes f.source shown name before between reads.prefix) called reads.read;
+  given = subst (λ (name : List ℕ). GivenFor f.source name before between reads.prefix) called reads.given;
   rest = subst (λ (v : Result Object Fault). ReadsThen shown f ws between after v rest.topology) (sym reads.is) rest.read;
   is = ap (λ (v : Result Object Fault). subject_by v rest.topology (lines_by f.source (word 1 ws)) f.node ws) reads.is ∙ rest.is;
   says = says result rest.topology rest.is;
@@ -328,6 +329,7 @@ subject_bad shown f ws name before after fault called (inr reads) = inr (record 
   between = after;
   topology = Ok chip;
   read = subst (λ (name : List ℕ). Takes f.source shown name before after reads.prefix) called reads.read;
+  given = subst (λ (name : List ℕ). GivenFor f.source name before after reads.prefix) called reads.given;
   rest = subst (λ (v : Result Object Fault). ReadsThen shown f ws after after v (Ok chip)) (sym reads.is) refl;
   is = ap (λ (v : Result Object Fault). subject_by v (Ok chip) (lines_by f.source (word 1 ws)) f.node ws) reads.is;
   says = tt;

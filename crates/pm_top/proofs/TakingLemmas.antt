@@ -59,7 +59,7 @@ module _ (shown : Type 0) (name : List ℕ) (before after : Moment) (p : Prefix)
 -- a number is read as it is
 pub number_read : (shown : Type 0) (name : List ℕ) (m : Moment) (result : Result Object Fault) → (result ≡ Err Memory) ⊎ (laboratory_for name ≡ result) → (result ≡ Err Memory) ⊎ ReadsAs source.Number shown name m m result
 number_read shown name m result (inl memory) = inl memory
-number_read shown name m result (inr is) = inr (record { prefix = itself name; read = (refl, refl); is = is; says = says (lines_asked name) is })
+number_read shown name m result (inr is) = inr (record { prefix = itself name; read = (refl, refl); given = tt; is = is; says = says (lines_asked name) is })
   where
     says : (lines : Option ℕ) → laboratory_if lines ≡ result → IfOk result (λ object. object ≡ laboratory)
     says None is = subst (λ (v : Result Object Fault). IfOk v (λ object. object ≡ laboratory)) is tt
@@ -68,7 +68,7 @@ number_read shown name m result (inr is) = inr (record { prefix = itself name; r
 -- nothing is read where there is no word
 pub nothing_read : (shown : Type 0) (name : List ℕ) (m : Moment) (result : Result Object Fault) → (result ≡ Err Memory) ⊎ (Ok laboratory ≡ result) → (result ≡ Err Memory) ⊎ ReadsAs source.Nothing shown name m m result
 nothing_read shown name m result (inl memory) = inl memory
-nothing_read shown name m result (inr is) = inr (record { prefix = itself name; read = (refl, refl); is = is; says = subst (λ (v : Result Object Fault). IfOk v (λ object. object ≡ laboratory)) is refl })
+nothing_read shown name m result (inr is) = inr (record { prefix = itself name; read = (refl, refl); given = tt; is = is; says = subst (λ (v : Result Object Fault). IfOk v (λ object. object ≡ laboratory)) is refl })
 
 -- ---- what is read of a later name
 
@@ -93,7 +93,7 @@ err_is_ok e = cc
 ok_is_err : {X Y : Type 0} {x : X} {y : Y} → ◌≡◌ {A = Result X Y} (Ok x) (Err y) → ⊥
 ok_is_err e = cc
 
-ok_is : {X Y : Type 0} {a b : X} → ◌≡◌ {A = Result X Y} (Ok a) (Ok b) → a ≡ b
+pub ok_is : {X Y : Type 0} {a b : X} → ◌≡◌ {A = Result X Y} (Ok a) (Ok b) → a ≡ b
 ok_is e = cc
 
 -- a text that is read as a topology means it
@@ -114,7 +114,7 @@ pub means_short : (text : List ℕ) (t : Topology) → 1048576 < length text →
 unfolding meaning
 means_short text t long is = let test : nat_lt most_bytes (length text) ≡ true = lt-ltb 1048576 (length text) long in err_is_ok (rw test at is)
 
-topology_end : (p : Prefix) (t : Topology) → HasSize topology_limit p.stop (length p.bytes) → topology_of p ≡ Ok t → p.stop ≡ reason.End
+pub topology_end : (p : Prefix) (t : Topology) → HasSize topology_limit p.stop (length p.bytes) → topology_of p ≡ Ok t → p.stop ≡ reason.End
 topology_end p t size is = by p.stop size is
   where
     by : (stop : StopReason) → HasSize topology_limit stop (length p.bytes) → if_read stop (topology_or_fault (meaning p.bytes)) ≡ Ok t → stop ≡ reason.End

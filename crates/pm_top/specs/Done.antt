@@ -24,13 +24,14 @@ use Rattle.pm_gen.specs.Summary.{summary}
 use Rattle.pm_isolate.specs.Differences.{isolate_text}
 use Rattle.pm_isolate.specs.Listed.{AreListed}
 use Rattle.pm_io.specs.Inputs.{Holds}
+use Rattle.pm_io.specs.Readings.{Meanwhile}
 use Rattle.pm_block.specs.Block.{attached_by, passed}
 use Rattle.pm_state.specs.State.{objects_in}
 use Rattle.pm_reader.specs.Front.{ran}
 use Rattle.pm_run.specs.Run.{setup_for}
 use Rattle.pm_io.specs.World.{World, world}
 use Rattle.pm_replay.specs.Replay.{replay_report}
-use Rattle.pm_replay.specs.Replayed.{IsRun, Replayed}
+use Rattle.pm_replay.specs.Replayed.{IsRun, Replayed, ReplayedGiven}
 use Rattle.pm_isolate.specs.Compared.{Compared, IsCompared}
 use Rattle.pm_isolate.specs.Differences.{isolate_report}
 use Rattle.pm_trace.specs.Report.{Report, Reports, refusal}
@@ -157,6 +158,8 @@ module _ {I O D : Type 0} (i : Inputs.Ghosts I) (o : Sink.Ghosts O) (d : Device.
     pub fitted : IsFitted d named t w.device start
     pub ran : Replayed i o d object t board is name (world w.inputs w.sink start) w' exit
     pub done : i.observable → o.observable → exit ≡ Done → IsRun i o d object t board is name (world w.inputs w.sink start) w'
+    pub given : Meanwhile (i.state w.inputs) (i.state w'.inputs) (λ calls. ReplayedGiven o d object t board is name calls
+        (world (i.state w.inputs) w.sink start) (world (i.state w'.inputs) w'.sink w'.device) exit)
 
   -- the same, or memory was wanted for the fit
   abbrev pub Replays : Option ℕ → Object → Topology → Standing → Standing → List ℕ → World I O D → World I O D → Exit → Type 0

@@ -1,7 +1,9 @@
--- The texts that a form reads under the names of its words, and that a source holds them.
-use Rattle.std.specs.Prelude.{◌≡◌, ℕ, List, [], ◌∷◌, Option, Some, None, Ok}
+-- The texts that a form reads under the names of its words: that a source holds them, and that its calls gave them.
+use Rattle.std.specs.Prelude.{◌≡◌, ℕ, List, [], ◌∷◌, ◌++◌, Option, Some, None, Ok}
 use Rattle.std.specs.List.{AllByRecursion as Each}
-use Rattle.pm_io.specs.Calls.{Named, named}
+use Rattle.pm_io.specs.declared.prefix.StopReason.TheVariants.{End}
+use Rattle.pm_io.specs.Calls.{Call, Named, ReadsWhole, named}
+use Rattle.pm_io.specs.Given.{prefix_called}
 use Rattle.pm_io.specs.Inputs.{Holds, Moment}
 use Rattle.pm_chip.specs.Chip.{chip}
 use Rattle.pm_topology.specs.declared.topology.Topology.{Topology}
@@ -27,3 +29,13 @@ IsTopologyOf (Some k) ws texts topology =
 -- a source holds each of these texts under its name
 abbrev pub HoldsEach : Moment → List Text → Type 0
 HoldsEach m texts = Each (λ (it : Text). Holds m it.named.name it.bytes) texts
+
+-- these calls begin the name of a text and read it to its end, and they gave its bytes
+pub record Gave (it : Text) (calls : List Call) : Type 0 where
+  pub reads : ReadsWhole it.named calls
+  pub is : prefix_called it.named.limit calls ≡ record { bytes = it.bytes; stop = End }
+
+-- so of each of these texts in turn, and these are all calls
+abbrev pub GaveEach : List Call → List Text → Type 0
+GaveEach calls [] = calls ≡ []
+GaveEach calls (it ∷ texts) = (one : List Call) × (next : List Call) × (calls ≡ one ++ next) × Gave it one × GaveEach next texts

@@ -27,7 +27,7 @@ use Rattle.pm_trace.specs.declared.line.Word.{Word}
 use Rattle.pm_trace.specs.Line.{line_text}
 use Rattle.pm_board.specs.Board.{Standing}
 use Rattle.pm_drive.specs.Drive.{last_book}
-use Rattle.pm_drive.specs.Drove.{AreTold, Follows, NoFailure}
+use Rattle.pm_drive.specs.Drove.{AreTold, Drove, Follows, NoFailure}
 use Rattle.pm_drive.specs.Scripts.{script_driven, script_text}
 use Rattle.pm_apart.specs.Lines.{is_about, run_lines}
 use Rattle.pm_isolate.specs.Transitions.{transitions}
@@ -81,6 +81,8 @@ module _ {O D : Type 0} (o : Sink.Ghosts O) (d : Device.Ghosts D) where
   -- what a run of a script came to that was written under the device's answers
   pub record IsHeadline (object : Object) (topology : Topology) (board : Standing) (events : List Event) (sink sink' : O) (start device : D) : Type 0 where
     pub answers : List (List Bool)
+    -- the device was driven through the run
+    pub drove : Drove d (setup_for object topology events) (script_driven object topology answers events) start device
     pub unfailing : NoFailure d topology (script_driven object topology [] events) start device
         → IsUnfailing object topology board events sink sink' device
     -- whatever fails, each message gets the answer of the checks of its call, or of a module; success alone is replaced, by an

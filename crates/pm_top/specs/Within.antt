@@ -1,11 +1,14 @@
 -- What the parts of a run do. No user of this crate speaks of these words.
-use Rattle.std.specs.Prelude.{◌≡◌, ◌⊎◌, ◌==◌, ◌≤◌, ℕ, List, [], ◌∷◌, Option, Some, None, Result, Ok, Err, IfOk, IfSome, IsTrue}
+use Rattle.std.specs.Prelude.{◌≡◌, ◌⊎◌, ◌==◌, ◌≤◌, ℕ, List, [], ◌∷◌, Option, Some, None, Result, Ok, Err, IfOk, IfSome, IsTrue, ⊤}
 use Rattle.std.specs.List.{list_any}
 use Rattle.pm_base.specs.declared.errors.Exit.{Exit}
 use Rattle.pm_base.specs.declared.names.NodeId.{NodeId}
 use Rattle.pm_io.specs.declared.sink.Sink as Sink
+use Rattle.pm_io.specs.Calls.{named}
+use Rattle.pm_io.specs.Given.{NameGiven}
 use Rattle.pm_io.specs.Inputs.{Moment}
 use Rattle.pm_io.specs.Prefix.{Prefix, ReadsPrefix}
+use Rattle.pm_io.specs.Readings.{Meanwhile, NameReadBy}
 use Rattle.pm_object.specs.declared.object.MasterRec.{MasterRec}
 use Rattle.pm_object.specs.declared.object.Object.{Object}
 use Rattle.pm_object.specs.Grammar.{IsObject}
@@ -36,10 +39,23 @@ Takes source.Text shown name before after prefix = ReadsPrefix shown name text_l
 Takes source.Number shown name before after prefix = (prefix ≡ itself name) × (before ≡ after)
 Takes source.Nothing shown name before after prefix = (prefix ≡ itself name) × (before ≡ after)
 
+-- by the calls a name was read so, up to one byte past a limit, and what was read of it is what they gave
+pub record GivenOf (name : List ℕ) (limit : ℕ) (before after : Moment) (prefix : Prefix) : Type 0 where
+  pub calls : Meanwhile before after (NameReadBy prefix.stop (named name limit))
+  pub given : Meanwhile before after (NameGiven limit prefix)
+
+-- so of what a name is
+abbrev pub GivenFor : Source → List ℕ → Moment → Moment → Prefix → Type 0
+GivenFor source.Object name before after prefix = GivenOf name object_limit before after prefix
+GivenFor source.Text name before after prefix = GivenOf name text_limit before after prefix
+GivenFor source.Number name before after prefix = ⊤
+GivenFor source.Nothing name before after prefix = ⊤
+
 -- a name was taken, and gives this object or fault
 pub record ReadsAs (source : Source) (shown : Type 0) (name : List ℕ) (before after : Moment) (result : Result Object Fault) : Type 0 where
   pub prefix : Prefix
   pub read : Takes source shown name before after prefix
+  pub given : GivenFor source name before after prefix
   pub is : object_by source prefix ≡ result
   pub says : IfOk result (Says source prefix.bytes)
 
@@ -47,6 +63,7 @@ pub record ReadsAs (source : Source) (shown : Type 0) (name : List ℕ) (before 
 pub record ReadsText (shown : Type 0) (name : List ℕ) (before after : Moment) (result : Result Topology Fault) : Type 0 where
   pub prefix : Prefix
   pub read : ReadsPrefix shown name topology_limit before after prefix
+  pub given : GivenOf name topology_limit before after prefix
   pub is : topology_of prefix ≡ result
 
 -- the same under the word at a place; without such a word the topology is the chip's, and nothing is read
@@ -72,6 +89,7 @@ pub record ReadsSubject (shown : Type 0) (f : Form) (ws : List (List ℕ)) (befo
   pub between : Moment
   pub topology : Result Topology Fault
   pub read : Takes f.source shown (word 1 ws) before between prefix
+  pub given : GivenFor f.source (word 1 ws) before between prefix
   pub rest : ReadsThen shown f ws between after (object_by f.source prefix) topology
   pub is : subject_of f ws prefix topology ≡ result
   pub says : IfOk result (λ subject. Says f.source prefix.bytes subject.object)

@@ -12,8 +12,9 @@ ghost use Rattle.pm_top.specs.Complete.{IsComplete};
 ghost use Rattle.pm_top.specs.Done.{IsDone, WorkDone};
 ghost use Rattle.pm_top.specs.declared.works.Work.TheVariants.{Replay};
 ghost use Rattle.pm_top.specs.Fit.{IsSafeRun};
-ghost use Rattle.pm_top.specs.Given.{HoldsEach};
+ghost use Rattle.pm_top.specs.Given.{GaveEach, HoldsEach};
 ghost use Rattle.pm_top.specs.Headline.{Headline};
+ghost use Rattle.pm_top.specs.Theorem.{IsReplayedBy};
 ghost use Rattle.pm_top.specs.Form.{form, form_of, over, request_of, topology_in};
 ghost use Rattle.pm_top.specs.Reads.{FormReads};
 ghost use Rattle.pm_top.specs.Ran.{Decides, DroveRun, EachEmptiesBoxes, EachFollowsClocks, EachHasCauses, EachKeepsApart, EachLowersCalls, EachTellsCalls, InputsMayFail, IsBeforeRun, Ran, RanForm};
@@ -74,6 +75,12 @@ pub fn pm_main<I: Inputs, O: Sink, D: Device, H: Responder, T: Handler>(
         → request_of (map string_bytes words.now) ≡ Some (over named Replay)
         → Headline O.Sink D.Device (HoldsEach (I.state inputs.old)) named (map string_bytes words.now)
         (standing H.Responder T.Handler modules.now tasks.old) out.old out.new dev.old dev.new }
+    // And of any inputs it holds of the bytes that their calls gave.
+    ensures given { O.observable → (named : Option ℕ) → result ≡ Exit.Done
+        → request_of (map string_bytes words.now) ≡ Some (over named Replay)
+        → Meanwhile (I.state inputs.old) (I.state inputs.new) (λ calls.
+        Headline O.Sink D.Device (GaveEach calls) named (map string_bytes words.now)
+        (standing H.Responder T.Handler modules.now tasks.old) out.old out.new dev.old dev.new) }
     // Usage comes exactly where the words have no form.
     ensures usage { (result ≡ Exit.Usage) ↔ (form (map string_bytes words.now) ≡ None) }
     // On Done of `replay`, whatever the inputs and the sink show: the device was driven through the whole run of a
@@ -174,6 +181,12 @@ fn run_board<I: Inputs, O: Sink, D: Device, H: Responder, T: Handler>(
         (standing H.Responder T.Handler modules.now tasks.old)
         (standing H.Responder T.Handler modules.now tasks.new)
         (world inputs.old out.old dev.old) (world inputs.new out.new dev.new) }
+    ensures given { O.observable → (named : Option ℕ) → result ≡ Exit.Done
+        → request_of (map string_bytes words.now) ≡ Some (over named Replay)
+        → Meanwhile (I.state inputs.old) (I.state inputs.new) (λ calls.
+        IsReplayedBy O.Sink D.Device (GaveEach calls) named (map string_bytes words.now)
+        (standing H.Responder T.Handler modules.now tasks.old)
+        (standing H.Responder T.Handler modules.now tasks.new) out.old out.new dev.old dev.new) }
     ensures safe { IsSafeRun D.Device (topology_in (map string_bytes words.now)) dev.old dev.new }
     ensures ran { Ran I.Inputs O.Sink D.Device (map string_bytes words.now)
         (standing H.Responder T.Handler modules.now tasks.old)
@@ -206,6 +219,12 @@ fn run_words<I: Inputs, O: Sink, D: Device, H: Responder, T: Handler>(
         (standing H.Responder T.Handler board.old.modules.now board.old.tasks)
         (standing H.Responder T.Handler board.old.modules.now board.new.tasks)
         (world inputs.old out.old dev.old) (world inputs.new out.new dev.new) }
+    ensures given { O.observable → (named : Option ℕ) → result ≡ Exit.Done
+        → request_of (map string_bytes words.now) ≡ Some (over named Replay)
+        → Meanwhile (I.state inputs.old) (I.state inputs.new) (λ calls.
+        IsReplayedBy O.Sink D.Device (GaveEach calls) named (map string_bytes words.now)
+        (standing H.Responder T.Handler board.old.modules.now board.old.tasks)
+        (standing H.Responder T.Handler board.old.modules.now board.new.tasks) out.old out.new dev.old dev.new) }
     ensures safe { IsSafeRun D.Device (topology_in (map string_bytes words.now)) dev.old dev.new }
     ensures ran { Ran I.Inputs O.Sink D.Device (map string_bytes words.now)
         (standing H.Responder T.Handler board.old.modules.now board.old.tasks)
@@ -236,6 +255,11 @@ fn run_request<I: Inputs, O: Sink, D: Device, H: Responder, T: Handler>(
         (standing H.Responder T.Handler board.old.modules.now board.old.tasks)
         (standing H.Responder T.Handler board.old.modules.now board.new.tasks)
         (world inputs.old out.old dev.old) (world inputs.new out.new dev.new) }
+    ensures given { O.observable → result ≡ Exit.Done → request.work ≡ Replay
+        → Meanwhile (I.state inputs.old) (I.state inputs.new) (λ calls.
+        IsReplayedBy O.Sink D.Device (GaveEach calls) request.topology (map string_bytes words.now)
+        (standing H.Responder T.Handler board.old.modules.now board.old.tasks)
+        (standing H.Responder T.Handler board.old.modules.now board.new.tasks) out.old out.new dev.old dev.new) }
     ensures safe { IsSafeRun D.Device request.topology dev.old dev.new }
     ensures ran { RanForm I.Inputs O.Sink D.Device (Some (form_of request.work request.topology))
         (map string_bytes words.now)

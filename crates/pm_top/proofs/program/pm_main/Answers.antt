@@ -1,12 +1,14 @@
 use Rattle.std.proofs.Common.{Option, map, string_bytes, subst}
 use Rattle.pm_io.specs.World.{world}
+use Rattle.pm_io.proofs.ReadingsLemmas.{meanwhile_map}
 use Rattle.pm_block.specs.Block.{passed}
 use Rattle.pm_run.specs.Run.{setup, setup_for}
 use Rattle.pm_run.proofs.FormedLemmas.{objects_formed}
 use Rattle.pm_top.specs.declared.works.Request.{Request}
 use Rattle.pm_top.specs.Done.{DoneIf}
-use Rattle.pm_top.specs.Given.{HoldsEach}
-use Rattle.pm_top.specs.Theorem.{IsReplayed}
+use Rattle.pm_top.specs.Given.{GaveEach, HoldsEach}
+use Rattle.pm_top.specs.Headline.{Headline}
+use Rattle.pm_top.specs.Theorem.{IsReplayed, IsReplayedBy}
 use Rattle.pm_top.proofs.CompleteLemmas.{is_complete}
 use Rattle.pm_top.proofs.DroveLemmas.{replay_drove}
 use Rattle.pm_top.proofs.HeadlineLaw.{HeadlineLaws, replayed_headline}
@@ -33,6 +35,25 @@ returns-clause-headline g c = λ seen written named done is.
     (c.run_board.ensures.done seen written done)
     in
     replayed_headline g.O.Sink g.D.Device laws (HoldsEach (g.I.Inputs.state w.inputs)) named (map string_bytes c.args.words.now) found left w.sink w'.sink w.device w'.device run
+
+pub returns-clause-given : goal.returns-clause-given
+returns-clause-given g c = λ written named done is.
+    let laws : HeadlineLaws g.D.Device = record {
+      kinds = c.kinds_are_exact.ensures;
+      exact = c.reach_is_closed.ensures.exact;
+      objects = objects_formed c.attached_objects_are_formed.ensures;
+      keeps = c.driven_runs_keep_apart.ensures.run;
+      causes = c.runs_have_causes.ensures.run;
+      transitions = c.what_differs_is_reached.ensures.beyond;
+    } in
+    let ws = map string_bytes c.args.words.now in
+    let found = standing g.H.Responder g.T.Handler c.args.modules.now c.args.tasks.now in
+    let left = standing g.H.Responder g.T.Handler c.args.modules.now c.run_board.new.tasks in
+    meanwhile_map (g.I.Inputs.state c.args.inputs.now) (g.I.Inputs.state c.run_board.new.inputs)
+    (λ calls. IsReplayedBy g.O.Sink g.D.Device (GaveEach calls) named ws found left c.args.out.now c.run_board.new.out c.args.dev.now c.run_board.new.dev)
+    (λ calls. Headline g.O.Sink g.D.Device (GaveEach calls) named ws found c.args.out.now c.run_board.new.out c.args.dev.now c.run_board.new.dev)
+    (λ calls run. replayed_headline g.O.Sink g.D.Device laws (GaveEach calls) named ws found left c.args.out.now c.run_board.new.out c.args.dev.now c.run_board.new.dev run)
+    (c.run_board.ensures.given written named done is)
 
 pub returns-clause-usage : goal.returns-clause-usage
 returns-clause-usage g c = usage g.I.Inputs g.O.Sink c.exits_say.ensures g.D.Device (map string_bytes c.args.words.now) (standing g.H.Responder g.T.Handler c.args.modules.now c.args.tasks.now) (standing g.H.Responder g.T.Handler c.args.modules.now c.run_board.new.tasks) (world c.args.inputs.now c.args.out.now c.args.dev.now) (world c.run_board.new.inputs c.run_board.new.out c.run_board.new.dev) c.run_board.result c.run_board.ensures.ran

@@ -1,9 +1,12 @@
 use Rattle.std.proofs.Common.{ap, map, string_bytes, subst}
+use Rattle.pm_io.specs.Readings.{Meanwhile}
 use Rattle.pm_io.specs.World.{world}
 use Rattle.pm_board.specs.Board.{Standing}
 use Rattle.pm_board.specs.Standing.{standing}
 use Rattle.pm_top.specs.Done.{IsDone}
+use Rattle.pm_top.specs.Given.{GaveEach}
 use Rattle.pm_top.specs.Ran.{Ran}
+use Rattle.pm_top.specs.Theorem.{IsReplayedBy}
 use Rattle.pm_top.proofs.program.run_board.Goals as goal
 
 pub returns-clause-done : goal.returns-clause-done
@@ -23,3 +26,11 @@ returns-clause-ran g c =
     let left = standing g.H.Responder g.T.Handler c.args.modules.now c.run_words-exit.new.board.tasks in
     subst (λ (b : Standing). Ran g.I.Inputs g.O.Sink g.D.Device (map string_bytes c.args.words.now) b left w w' c.run_words-exit.result) found
     c.run_words-exit.ensures.ran
+
+pub returns-clause-given : goal.returns-clause-given
+returns-clause-given g c = λ written named is asked.
+    let found = ap (standing g.H.Responder g.T.Handler c.args.modules.now) c.replace.ensures.value in
+    let left = standing g.H.Responder g.T.Handler c.args.modules.now c.run_words-exit.new.board.tasks in
+    subst (λ (b : Standing). Meanwhile (g.I.Inputs.state c.args.inputs.now) (g.I.Inputs.state c.run_words-exit.new.inputs) (λ calls.
+    IsReplayedBy g.O.Sink g.D.Device (GaveEach calls) named (map string_bytes c.args.words.now) b left c.args.out.now c.run_words-exit.new.out c.args.dev.now c.run_words-exit.new.dev)) found
+    (c.run_words-exit.ensures.given written named is asked)

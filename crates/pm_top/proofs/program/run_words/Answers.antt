@@ -1,11 +1,15 @@
-use Rattle.std.proofs.Common.{[], Option, None, Err, map, refl, string_bytes, subst}
+use Rattle.std.proofs.Common.{◌≡◌, ◌∙◌, ℕ, [], Option, None, Err, ap, map, refl, string_bytes, subst}
 use Rattle.pm_trace.specs.declared.faults.Fault.TheVariants.{Usage}
 use Rattle.pm_io.specs.World.{world}
 use Rattle.pm_board.specs.Standing.{standing}
 use Rattle.pm_top.specs.declared.works.Request.{Request}
 use Rattle.pm_top.specs.Done.{DoneIf}
 use Rattle.pm_top.specs.Fit.{IsSafeRun}
-use Rattle.pm_top.specs.Form.{form_if, topology_if}
+use Rattle.pm_top.specs.declared.works.Work.TheVariants.{Replay}
+use Rattle.pm_top.specs.Form.{form_if, over, topology_if}
+use Rattle.pm_top.specs.Given.{GaveEach}
+use Rattle.pm_top.specs.Theorem.{IsReplayedBy}
+use Rattle.pm_trace.proofs.ScriptsLemmas.{same_in_some}
 use Rattle.pm_top.specs.Ran.{RanForm}
 use Rattle.pm_io.specs.Readings.{Meanwhile}
 use Rattle.pm_io.proofs.ReadingsLemmas.{meanwhile_none}
@@ -46,3 +50,12 @@ returns-in-Some-clause-safe g c =
 
 pub returns-in-None-clause-safe : goal.returns-in-None-clause-safe
 returns-in-None-clause-safe g c = still_safe g.D.Device _ c.args.dev.now c.args.dev.now refl
+
+pub returns-in-Some-clause-given : goal.returns-in-Some-clause-given
+returns-in-Some-clause-given g c = λ written named is asked.
+    let request : c.in-Some.request ≡ over named Replay = same_in_some (c.in-Some.ensures ∙ asked) in
+    let found = standing g.H.Responder g.T.Handler c.args.board.now.modules.now c.args.board.now.tasks in
+    let left = standing g.H.Responder g.T.Handler c.args.board.now.modules.now c.run_request.new.board.tasks in
+    subst (λ (topology : Option ℕ). Meanwhile (g.I.Inputs.state c.args.inputs.now) (g.I.Inputs.state c.run_request.new.inputs) (λ calls.
+    IsReplayedBy g.O.Sink g.D.Device (GaveEach calls) topology (map string_bytes c.args.words.now) found left c.args.out.now c.run_request.new.out c.args.dev.now c.run_request.new.dev))
+    (ap (λ (r : Request). r.topology) request) (c.run_request.ensures.given written is (ap (λ (r : Request). r.work) request))

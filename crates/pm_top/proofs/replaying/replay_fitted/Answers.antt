@@ -9,7 +9,7 @@ pub replay-requires-clause-idle : goal.replay-requires-clause-idle
 replay-requires-clause-idle g c = λ seen unit. (c.chain_shows.ensures (Fit c.args.topology ∷ []) c.args.dev.now c.fit.new.self (c.fit.new.self, c.in-Ok.ensures.does, refl)).values seen unit
 
 pub returns-in-Ok-clause-did : goal.returns-in-Ok-clause-did
-returns-in-Ok-clause-did g c = inr (record { start = c.fit.new.self; fitted = c.in-Ok.ensures.does; ran = c.replay.ensures.ran; done = c.replay.ensures.done })
+returns-in-Ok-clause-did g c = inr (record { start = c.fit.new.self; fitted = c.in-Ok.ensures.does; ran = c.replay.ensures.ran; done = c.replay.ensures.done; given = c.replay.ensures.given })
 
 pub returns-in-Ok-clause-safe : goal.returns-in-Ok-clause-safe
 returns-in-Ok-clause-safe g c = record { named = Some c.args.place; asked = inr refl; topology = c.args.topology; start = c.fit.new.self; fitted = c.in-Ok.ensures.does; safe = c.replay.ensures.safe }
