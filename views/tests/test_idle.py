@@ -81,7 +81,8 @@ class Idle(Case):
             self.assertEqual(runs[0], runs[1], script)
 
     def test_what_is_said_to_be_refused_or_not_heard_is_so(self):
-        lines = [line for line, said in LINES.items() if said and "[no-effect]" not in said and not line.startswith("post")]
+        said = [text for _, text in self.said("\n".join(LINES) + "\n") if text.endswith(("[refused]", "[not-heard]"))]
+        lines = [text.split(": ")[0] for text in said if not text.startswith("post")]
         self.assertGreater(len(lines), 6)
         numbers = to_numbers.in_numbers("\n".join(["ipi APU INIT_FINALIZE", *lines, ""]).encode(), "FILE").decode()
         status, written, _ = program("replay", LABORATORY, self.file("s", numbers))
