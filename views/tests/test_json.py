@@ -84,6 +84,9 @@ class Robots(Case):
         self.assertTrue(broken[0]["message"]["text"].startswith("never APU master RPU_0: broken by APU: APU > RPU_0; "), broken[0])
         self.assertIn({"byteOffset": 20, "byteLength": 4}, [it["physicalLocation"]["region"] for it in broken[0]["relatedLocations"]])
         self.assertIn("APU > RPU_0: suspend: master 1 1 4294967295 768 768: its suspend word", broken[0]["relatedLocations"][0]["message"]["text"])
+        for result in broken:
+            for related in result["relatedLocations"]:
+                self.assertIn(related["message"]["text"].partition(": ")[0], result["message"]["text"])
         left = [it for it in found if it["ruleId"] == "not-judged"]
         self.assertEqual((len(left), {it["level"] for it in left}), (36, {"warning"}))
         self.assertIn("reset 1119 769: APU, RPU_0, RPU_1 may reset RESET_PS_PL3, and no rule judges it", left[-1]["message"]["text"])

@@ -115,6 +115,11 @@ class Outages(Case):
             ended += len(run.turned("".join(f"{line}\n" for line in script).encode())[0].lines) - len(script)
         self.assertGreater(ended, 16)
 
+    def test_a_line_that_refuses_a_command_itself_is_the_one_that_ends_it(self):
+        script = self.file("lags.script", "ipi 1 21\nbreak 33\nipi 1 13 33 1 0 2\nfail 33 once\ntick 1\n")
+        lines = without_meanings(self.text("--names", "replay", LABORATORY, script))
+        self.assertEqual([line for line in lines if line[0] in "45"], ["4 fail 33 0 1", "5 set 33 0 1"])
+
     # The numbers of lines, in each view.
 
     def test_the_numbers_of_the_output(self):
@@ -139,7 +144,7 @@ class Outages(Case):
 
     def test_the_numbers_of_a_dump_and_a_picture(self):
         dump = picture.read(self.text("--vcd", "replay", LABORATORY, self.script))
-        lines = [(time, text.split()[0]) for time, text in dump.named("line").changes]
+        lines = [(time, text.split()[0]) for time, text in dump.named("line").texts]
         self.assertEqual(lines, [(1000 * number, line.split()[0]) for number, line in enumerate(["load", *SCRIPT.splitlines()])])
         device = [signal for signal in dump.signals if signal.is_of_device() and signal.name in ("SD_0", "UART_0")]
         changes = {signal.name: [(time // 1000, value) for time, value in signal.changes if time // 1000 > 1] for signal in device}
