@@ -6,16 +6,19 @@ use Rattle.std.specs.declared.io.ErrorKind.TheVariants.{InvalidData}
 use Rattle.std.specs.IoError.{error_kind}
 use Rattle.pm_base.specs.declared.errors.Exit.{Exit}
 use Rattle.pm_base.specs.declared.errors.Exit.TheVariants as exit
+use Rattle.pm_io.specs.Calls.{Call}
 use Rattle.pm_chip.specs.Chip.{chip}
+use Rattle.pm_device.specs.declared.device.Device as Device
 use Rattle.pm_device.specs.Fresh.{IsFresh}
 use Rattle.pm_device.specs.Model.{Bench, moment_of}
 use Rattle.pm_top.specs.declared.works.Work.TheVariants.{Replay}
 use Rattle.pm_top.specs.Form.{form, over, request_of, topology_in}
 use Rattle.pm_top.specs.Ran.{IsBeforeRun}
 use Rattle.pm_cli.specs.Logged.{IsLogOfRun, IsSafeLog}
+use Rattle.pm_cli.specs.Replayed.{HasReplayed}
 
 -- a run of these words ended with this exit, and left its device so
-pub record HasEnded (ws : List (List ℕ)) (result : Exit) (old new : Bench) : Type 0 where
+pub record HasEnded (d : Device.Ghosts Bench) (ws : List (List ℕ)) (result : Exit) (old new : Bench) : Type 0 where
   -- Usage comes only where the words have no form
   pub usage : result ≡ exit.Usage → form ws ≡ None
   -- before a script is run nothing is done to the device
@@ -25,14 +28,17 @@ pub record HasEnded (ws : List (List ℕ)) (result : Exit) (old new : Bench) : T
   -- where `replay` is done, the acts on the device are those of the whole run of a script, after a fit to the topology that the
   -- words name, if they do
   pub driven : (named : Option ℕ) → result ≡ exit.Done → request_of ws ≡ Some (over named Replay) → IsLogOfRun named new.log
+  -- and the headline holds of what some calls gave, those of its inputs, and of some bytes, those that its writer took
+  pub replayed : (named : Option ℕ) → result ≡ exit.Done → request_of ws ≡ Some (over named Replay)
+      → (calls : List Call) × (bytes : List ℕ) × HasReplayed d named ws calls bytes old new
 
 -- these words were run over a device of the chip on which nothing had been done, and all of whose units stood at 0
-pub record HasRun (ws : List (List ℕ)) (result : Exit) : Type 0 where
+pub record HasRun (d : Device.Ghosts Bench) (ws : List (List ℕ)) (result : Exit) : Type 0 where
   pub old : Bench
   pub new : Bench
   pub fresh : IsFresh chip (moment_of old)
   pub empty : old.log ≡ []
-  pub ended : HasEnded ws result old new
+  pub ended : HasEnded d ws result old new
 
 -- the words that the host gave
 abbrev pub GivenWords : Type 0
@@ -44,14 +50,14 @@ AreWordsOf (Ok words) ws = ws ≡ map string_bytes words.items
 AreWordsOf (Err error) ws = (error_kind error ≡ InvalidData) × (ws ≡ [])
 
 -- they were run
-pub record HasRunGiven (given : GivenWords) (result : Exit) : Type 0 where
+pub record HasRunGiven (d : Device.Ghosts Bench) (given : GivenWords) (result : Exit) : Type 0 where
   pub ws : List (List ℕ)
   pub are : AreWordsOf given ws
-  pub run : HasRun ws result
+  pub run : HasRun d ws result
 
 -- they were run, or memory was wanted before
-abbrev pub MayRun : GivenWords → Exit → Type 0
-MayRun given result = (result ≡ exit.Memory) ⊎ HasRunGiven given result
+abbrev pub MayRun : Device.Ghosts Bench → GivenWords → Exit → Type 0
+MayRun d given result = (result ≡ exit.Memory) ⊎ HasRunGiven d given result
 
 -- the number that a process ends with
 abbrev pub code_of : Exit → ℕ
@@ -66,7 +72,7 @@ code_of exit.TooLarge = 7
 code_of exit.BadText = 8
 
 -- a process ends with this number: that of the exit of a run of the words that the host gave
-pub record ProcessEnds (given : GivenWords) (status : ℕ) : Type 0 where
+pub record ProcessEnds (d : Device.Ghosts Bench) (given : GivenWords) (status : ℕ) : Type 0 where
   pub result : Exit
-  pub run : MayRun given result
+  pub run : MayRun d given result
   pub is : status ≡ code_of result

@@ -1,3 +1,4 @@
 pub mod Brought
 pub mod Ended
 pub mod Logged
+pub mod Replayed

@@ -1,8 +1,10 @@
 //! The program `pmu`, over the files and the standard output of the host and a device in memory.
 #![tactic(auto)]
 
-ghost use Rattle.std.specs.Prelude.{◌≡◌, ℕ, [], IfOk, MatchResult, None, Option, Some, map, string_bytes};
+ghost use Rattle.std.specs.Prelude.{◌≡◌, ℕ, [], IfOk, List as Sequence, MatchResult, None, Option, Some, map, string_bytes};
 ghost use Rattle.std.specs.Process.{exit_status};
+ghost use Rattle.pm_io.specs.Calls.{Call};
+ghost use Rattle.pm_io.specs.Readings.{Meanwhile};
 ghost use Rattle.pm_chip.specs.Chip.{chip};
 ghost use Rattle.pm_device.specs.Fresh.{IsFresh};
 ghost use Rattle.pm_device.specs.Model.{moment_of};
@@ -14,19 +16,22 @@ ghost use Rattle.pm_tasks.specs.Stored.{timetable};
 ghost use Rattle.pm_cli.specs.Brought.{AreTwoCounters, programs_modules};
 ghost use Rattle.pm_cli.specs.Ended.{AreWordsOf, HasEnded, HasRun, HasRunGiven, MayRun, ProcessEnds, code_of};
 ghost use Rattle.pm_cli.specs.Logged.{IsLogOfRun, IsSafeLog};
+ghost use Rattle.pm_cli.specs.Replayed.{HasReplayed};
 
 mod brought;
 
 use brought::{boxed, modules, tasks};
 use pm_base::{Exit, NoMemory};
 use pm_chip::zynqmp;
-use pm_device::{ModelDevice, chains_are_logged};
+use pm_device::{Device, ModelDevice, chains_are_logged};
 use pm_host::{HostInputs, HostSink};
+use pm_io::Inputs;
 use pm_modules::{Echo, Masked, Modules, Responder};
 use pm_replay::logged_acts_are_safe;
 use pm_tasks::{Counter, Handler, Tasks};
 use pm_top::pm_main;
 use std::alloc::Global;
+use std::io::Write;
 use std::process::ExitCode;
 use std::rt::{Env, Files};
 use std::{env, io};
@@ -37,7 +42,7 @@ fn main(rt: HostRuntime) -> ExitCode {
 
 /// Runs the words that the host gave. The process ends with the number of the exit.
 fn end<R: Files + Print + AllocGlobal>(rt: &R, words: io::Result<Vec<String>>) -> ExitCode
-    ensures { ProcessEnds words (exit_status result) }
+    ensures { ProcessEnds ⟦<ModelDevice as Device>⟧ words (exit_status result) }
 {
     ExitCode::from(code_of(run(rt, words)))
 }
@@ -51,7 +56,7 @@ fn code_of(exit: Exit) -> u8
 
 /// Runs these words, or ends for want of memory.
 fn run<R: Files + Print + AllocGlobal>(rt: &R, words: io::Result<Vec<String>>) -> Exit
-    ensures { MayRun words result }
+    ensures { MayRun ⟦<ModelDevice as Device>⟧ words result }
 {
     match run_given(rt, words) {
         Ok(exit) => exit,
@@ -64,7 +69,7 @@ fn run_given<R: Files + Print + AllocGlobal>(
     rt: &R,
     words: io::Result<Vec<String>>,
 ) -> Result<Exit, NoMemory>
-    ensures { IfOk result (HasRunGiven words) }
+    ensures { IfOk result (HasRunGiven ⟦<ModelDevice as Device>⟧ words) }
 {
     let words = texts(rt.alloc(), words)?;
     run_words(rt, words.as_slice())
@@ -83,7 +88,7 @@ fn texts(alloc: Global, words: io::Result<Vec<String>>) -> Result<Vec<String>, N
 
 /// Runs these words over a new device.
 fn run_words<R: Files + Print + AllocGlobal>(rt: &R, words: &[String]) -> Result<Exit, NoMemory>
-    ensures { IfOk result (HasRun (map string_bytes words.now)) }
+    ensures { IfOk result (HasRun ⟦<ModelDevice as Device>⟧ (map string_bytes words.now)) }
 {
     let mut device = device(rt.alloc())?;
     run_over(rt, words, &mut device)
@@ -97,7 +102,8 @@ fn run_over<R: Files + Print + AllocGlobal>(
 ) -> Result<Exit, NoMemory>
     requires fresh { IsFresh chip (moment_of device.old) }
     requires log { device.old.log ≡ [] }
-    ensures { MatchResult result (λ exit. HasEnded (map string_bytes words.now) exit device.old device.new)
+    ensures { MatchResult result
+        (λ exit. HasEnded ⟦<ModelDevice as Device>⟧ (map string_bytes words.now) exit device.old device.new)
         (λ _. device.old ≡ device.new) }
 {
     let alloc = rt.alloc();
@@ -117,7 +123,8 @@ fn run_with<R: Files + Print + AllocGlobal>(
     requires fresh { IsFresh chip (moment_of device.old) }
     requires log { device.old.log ≡ [] }
     requires modules { ranges ⟦<Box<dyn Responder> as Responder>⟧ modules.now ≡ programs_modules }
-    ensures { MatchResult result (λ exit. HasEnded (map string_bytes words.now) exit device.old device.new)
+    ensures { MatchResult result
+        (λ exit. HasEnded ⟦<ModelDevice as Device>⟧ (map string_bytes words.now) exit device.old device.new)
         (λ _. device.old ≡ device.new) }
 {
     let alloc = rt.alloc();
@@ -127,10 +134,10 @@ fn run_with<R: Files + Print + AllocGlobal>(
     Ok(work(rt, words, device, modules, &mut tasks))
 }
 
-/// Runs these words over a new device, with the modules and the timed tasks of the program. Whatever becomes of them,
-/// the acts on the device are in an order in which nothing is used without power, and no domain goes down under its
-/// users. Where `replay` is done, they are those of the whole run of a script, after a fit to the topology that the words
-/// name, if they do.
+/// Runs these words over a new device, the files and the standard output of the host, with the modules and the timed
+/// tasks of the program. Whatever becomes of them, the acts on the device are in an order in which nothing is used
+/// without power, and no domain goes down under its users. Where `replay` is done, they are those of the whole run of a
+/// script, after a fit to the topology that the words name, if they do.
 fn work<R: Files + Print + AllocGlobal>(
     rt: &R,
     words: &[String],
@@ -149,16 +156,20 @@ fn work<R: Files + Print + AllocGlobal>(
     ensures safe { IsSafeLog (topology_in (map string_bytes words.now)) device.new.log }
     ensures driven { (named : Option ℕ) → result ≡ Exit.Done
         → request_of (map string_bytes words.now) ≡ Some (over named Replay) → IsLogOfRun named device.new.log }
+    // And the headline holds of what some calls gave, and of some bytes. They are those of these files and of this output:
+    // `run_on` says so.
+    ensures replayed { (named : Option ℕ) → result ≡ Exit.Done
+        → request_of (map string_bytes words.now) ≡ Some (over named Replay)
+        → (calls : Sequence Call) × (bytes : Sequence ℕ) × HasReplayed ⟦<ModelDevice as Device>⟧ named
+        (map string_bytes words.now) calls bytes device.old device.new }
 {
-    logged_acts_are_safe();
-    chains_are_logged();
     let Ok(mut inputs) = HostInputs::new(rt.alloc(), rt) else {
         return Exit::Memory;
     };
     let Ok(mut out) = HostSink::new(rt.alloc(), io::writer(rt)) else {
         return Exit::Memory;
     };
-    let exit = pm_main(
+    run_on(
         rt.alloc(),
         words,
         &mut inputs,
@@ -166,7 +177,40 @@ fn work<R: Files + Print + AllocGlobal>(
         device,
         modules,
         tasks,
-    );
+    )
+}
+
+/// Runs these words over inputs and a sink that has accepted nothing, and hands on to its writer what the sink gathered.
+fn run_on<I: Inputs, W: Write + Drop>(
+    alloc: Global,
+    words: &[String],
+    inputs: &mut I,
+    out: &mut HostSink<W>,
+    device: &mut ModelDevice,
+    modules: &Modules,
+    tasks: &mut Tasks,
+) -> Exit
+    requires unused { out.old.accepted ≡ [] }
+    requires fresh { IsFresh chip (moment_of device.old) }
+    requires log { device.old.log ≡ [] }
+    requires modules { ranges ⟦<Box<dyn Responder> as Responder>⟧ modules.now ≡ programs_modules }
+    requires tasks { AreTwoCounters (timetable ⟦<Box<dyn Handler> as Handler>⟧ tasks.old) }
+    // Usage comes only where the words have no form.
+    ensures usage { result ≡ Exit.Usage → form (map string_bytes words.now) ≡ None }
+    // Before a script is run nothing is done to the device.
+    ensures untouched { IsBeforeRun (form (map string_bytes words.now)) result → device.old ≡ device.new }
+    ensures safe { IsSafeLog (topology_in (map string_bytes words.now)) device.new.log }
+    ensures driven { (named : Option ℕ) → result ≡ Exit.Done
+        → request_of (map string_bytes words.now) ≡ Some (over named Replay) → IsLogOfRun named device.new.log }
+    // And the headline holds of the bytes that the calls of the inputs gave, and of all bytes that the writer took.
+    ensures replayed { (named : Option ℕ) → result ≡ Exit.Done
+        → request_of (map string_bytes words.now) ≡ Some (over named Replay)
+        → Meanwhile (I.state inputs.old) (I.state inputs.new) (λ calls. HasReplayed ⟦<ModelDevice as Device>⟧ named
+        (map string_bytes words.now) calls out.new.out.bytes device.old device.new) }
+{
+    logged_acts_are_safe();
+    chains_are_logged();
+    let exit = pm_main(alloc, words, inputs, out, device, modules, tasks);
     out.finish(exit)
 }
 
