@@ -96,6 +96,15 @@ names --json  writes the names as JSON
 END_OF_OPTIONS
 }
 
+# The options of all forms, as the manual page has them.
+options_of_all() {
+    echo 'The options of the forms, and what else is to be known of these:'
+    options | awk '{
+        split(substr($0, length($1) + 2), part, "  ")
+        printf "       %-24s %s\n", $1 (part[1] == "-" ? "" : " " part[1]), part[2]
+    }'
+}
+
 # The lines of the help about the form that begins with this word, with its options and exits; nothing if there is no such form.
 help_of() {
     told=$(help | awk -v form="$1" '

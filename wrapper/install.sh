@@ -85,7 +85,7 @@ page() {
 }
 
 put_pages() {
-    (. "$top/wrapper/help.sh" && help) | page pmu 1 'the power management core of the Zynq UltraScale+' >"$room/pmu.1" &&
+    (. "$top/wrapper/help.sh" && help && echo && options_of_all) | page pmu 1 'the power management core of the Zynq UltraScale+' >"$room/pmu.1" &&
         page pmu 3 'the core as a library for C' <"$top/include/pmu.h" >"$room/pmu.3" &&
         put 644 "$room/pmu.1" share/man/man1/pmu.1 && put 644 "$room/pmu.3" share/man/man3/pmu.3
 }

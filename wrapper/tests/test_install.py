@@ -145,6 +145,7 @@ class Install(Tree):
         page = read(f"{self.prefix}/share/man/man1/pmu.1").decode()
         self.assertTrue(page.startswith('.TH pmu 1 "" "pmu 0.1.0"\n.SH NAME\npmu \\- the power management core'), page[:200])
         self.assertIn("./pmu replay OBJ SCRIPT", page)
+        self.assertIn("policy \\-\\-repair ", page)
         self.assertIn("pmu_is_beyond", read(f"{self.prefix}/share/man/man3/pmu.3").decode())
         if shutil.which("man"):
             ran = subprocess.run(["man", "-l", f"{self.prefix}/share/man/man1/pmu.1"], capture_output=True, env={**os.environ, "LC_ALL": "C", "MANPAGER": "cat"}, check=False)
