@@ -5,11 +5,11 @@ import re
 import unittest
 import unittest.mock
 
+import breaches
 import chip as chips
 import names
 import objects
 import permits
-import policy
 import program as programs
 import reached
 from common import EXAMPLES, TOPOLOGIES, Case, example, program, view
@@ -91,7 +91,7 @@ class Chip(Case):
         records = "".join(f"reset {line} 1\n" for line in names.RESETS)
         path = self.object_of(ALL_LINES + records)
         board = chips.chosen(path, objects.read(path), [PUBLISHED])
-        silent = {record.record.line for record in policy.unjudged(board)}
+        silent = {record.record.line for record in breaches.unjudged(board)}
         self.assertEqual(silent, {line for line in names.RESETS if not board.chip.resets[line]})
         self.assertEqual(len(silent), 55)
         # (and each other one brings all that it resets into the reach)
