@@ -215,7 +215,7 @@ class Lint(Case):
         lines = ["section slaves", "slave 33 3 1", "slave 70 3 8", "slave 35 0 0", "section power", "power 6 5", "power 78 2"]
         wanted = ["no-master", "no-flag", "not-in-table", "no-master", "no-flag", "no-user", "no-master", "forces-a-master", "not-in-table"]
         text, script = self.file("made.txt", "\n".join(head + lines) + "\n"), self.file("script", "wfi 99\nipi 9 1\n")
-        found = json.loads(self.text("lint", "--json", text, script))
+        found = json.loads(self.text("lint", "--json", text, script))["findings"]
         self.assertEqual([each["line"] for each in found], [4, 6, 7, 7, 7, 8, 10, 10, 11, 1, 2])
         self.assertEqual([each["check"] for each in found], [*wanted, "no-effect", "not-heard"])
         for path in (text, self.object_of(head + lines)):
