@@ -1,4 +1,5 @@
-//! What the last step tells, and what is read of the book.
+//! Reading from a controller: the lines of its last step, and what its book says. Each call leaves the controller as it
+//! is. What it reads is written only if it answers `DONE`, but for the text of `pmu_text`.
 
 ghost use Rattle.std.specs.Prelude.{◌≡◌, ◌≤◌, ◌<◌, [], ◌∷◌, Some, None, take, length, option_map};
 ghost use Rattle.pm_controller.specs.Controls.{is_settled, mode_of, text_of, value_of};
@@ -14,9 +15,12 @@ use pm_base::{Message, NodeId};
 use pm_slot::Slot;
 use std::alloc::Global;
 
-/// The lines of the last step, with this number before each, are written to `text`, of which the first `written` bytes are
-/// written then. Answers `DONE`; `NO_ROOM` if they don't fit, and then as many bytes as fit; `COMMAND_LEFT` if the step
-/// isn't over; `NO_MEMORY`; and `CLOSED`. Nothing else changes.
+/// Writes the lines of the last step to the front of `text`, each after this number. `written` is the number of bytes
+/// that were written: 0 unless the answer is `DONE` or `NO_ROOM`. The controller stays as it is.
+///
+/// Answers `DONE` if all lines were written; `NO_ROOM` if they don't fit: then as much as fits is written;
+/// `COMMAND_LEFT` if the step isn't over, since a command waits for its answer; `NO_MEMORY` for want of memory; and
+/// `CLOSED` if the handle holds no controller.
 #[unsafe(no_mangle)]
 pub extern "C" fn pmu_text(
     alloc: Global,
@@ -36,8 +40,10 @@ pub extern "C" fn pmu_text(
     write_text(alloc, pmu, number, text, written)
 }
 
-/// Whether the step is over, and the device took the book's value for each unit of the chip. Answers `DONE`, `NO_MEMORY`
-/// and `CLOSED`. Nothing changes.
+/// Leaves in `settled` whether the last step is over and the value that the device last took for each unit of the chip
+/// is the one in the book.
+///
+/// Answers `DONE`; `NO_MEMORY` for want of memory; and `CLOSED` if the handle holds no controller.
 #[unsafe(no_mangle)]
 pub extern "C" fn pmu_is_settled(alloc: Global, pmu: &mut Slot, settled: &mut bool) -> u32
     ensures kept { inside pmu.new.held ≡ inside pmu.old.held }
@@ -49,8 +55,11 @@ pub extern "C" fn pmu_is_settled(alloc: Global, pmu: &mut Slot, settled: &mut bo
     read_settled(alloc, pmu, settled)
 }
 
-/// The value of a node in the book. Answers `DONE`; `NO_NODE` if the chip has no such node; `NO_MEMORY`; and `CLOSED`.
-/// Nothing changes.
+/// Leaves in `value` the value of a node in the book: the state of a slave; 1 for a power node that is up and for a
+/// processor that is active or suspending, and 0 for any other.
+///
+/// Answers `DONE`; `NO_NODE` if the chip has no such node; `NO_MEMORY` for want of memory; and `CLOSED` if the handle
+/// holds no controller.
 #[unsafe(no_mangle)]
 pub extern "C" fn pmu_value(alloc: Global, pmu: &mut Slot, node: u32, value: &mut u32) -> u32
     ensures kept { inside pmu.new.held ≡ inside pmu.old.held }
@@ -63,7 +72,10 @@ pub extern "C" fn pmu_value(alloc: Global, pmu: &mut Slot, node: u32, value: &mu
     read_value(alloc, pmu, NodeId(node), value)
 }
 
-/// The mode of a processor: 0 off, 1 active, 2 asleep, 3 suspending. Answers as `pmu_value` does.
+/// Leaves in `mode` the mode of a processor: 0 off, 1 active, 2 asleep, 3 suspending.
+///
+/// Answers `DONE`; `NO_NODE` if no processor of the chip has this number; `NO_MEMORY` for want of memory; and `CLOSED`
+/// if the handle holds no controller.
 #[unsafe(no_mangle)]
 pub extern "C" fn pmu_mode(alloc: Global, pmu: &mut Slot, proc: u32, mode: &mut u32) -> u32
     ensures kept { inside pmu.new.held ≡ inside pmu.old.held }
@@ -77,8 +89,11 @@ pub extern "C" fn pmu_mode(alloc: Global, pmu: &mut Slot, proc: u32, mode: &mut 
     read_mode(alloc, pmu, NodeId(proc), mode)
 }
 
-/// The status of a node, as GET_NODE_STATUS (UG1200) tells it to a master, without a message. Answers `DONE`; `NO_NODE` if
-/// the chip has no such node or the object no such master; `NO_MEMORY`; and `CLOSED`. Nothing changes.
+/// Leaves in `status` what PM_GET_NODE_STATUS (UG1200) would tell a master of a node. It takes no message for it: no
+/// step begins, and the master may be in any mode.
+///
+/// Answers `DONE`; `NO_NODE` if the chip has no such node or the object no such master; `NO_MEMORY` for want of memory;
+/// and `CLOSED` if the handle holds no controller.
 #[unsafe(no_mangle)]
 pub extern "C" fn pmu_node_status(
     alloc: Global,
@@ -99,9 +114,12 @@ pub extern "C" fn pmu_node_status(
     read_status(alloc, pmu, NodeId(master), NodeId(node), status)
 }
 
-/// Whether a message of `sender` is beyond the reach of the master `of`: the sender is beyond, or is no configured master, and
-/// so is each node that the message names, or the reset line whose value it asks for. Answers `DONE`, `NO_MEMORY` and
-/// `CLOSED`. Nothing changes.
+/// Leaves in `beyond` whether a message is beyond the reach of the master `of`. It is if two things hold: the master
+/// `sender` is beyond that reach, or is no configured master; and each node that the message names is beyond it, and so
+/// is the reset line if the message asks for the value of one. The message is the call with the number `api`, with its
+/// five arguments.
+///
+/// Answers `DONE`; `NO_MEMORY` for want of memory; and `CLOSED` if the handle holds no controller.
 #[unsafe(no_mangle)]
 pub extern "C" fn pmu_is_beyond(
     alloc: Global,

@@ -1,4 +1,4 @@
-//! A whole run.
+//! A whole run in one call.
 
 ghost use Rattle.std.specs.Prelude.{◌≡◌, ◌≤◌, take, length};
 ghost use Rattle.pm_object.specs.declared.object.Object.{Object};
@@ -10,9 +10,14 @@ use pm_base::Exit;
 use pm_device::{Device, ModelDevice};
 use std::alloc::Global;
 
-/// Runs a script over a configuration object, the topology of the chip and a new device in memory, with no modules and
-/// no timed tasks, and writes the text of the run to `text`, of which the first `written` bytes are written then.
-/// Answers `DONE` and the other exits by their numbers: if the text doesn't fit that of WriteFault, and it breaks off.
+/// Runs the script in the bytes `script` over the configuration object in the bytes `object`, with the topology of the
+/// chip and a new device in memory, and with no modules and no timed tasks. The text of the run goes to the front of
+/// `text`, and `written` is the number of its bytes there.
+///
+/// Answers 0 (`DONE`) if `text` has the whole text of the run; 2 (`BAD_OBJECT`) if the bytes are no object; 3 if a line
+/// of the script has no meaning; 7 if the script is too large; 6 (`NO_MEMORY`) for want of memory; and 5 (`NO_ROOM`) if
+/// the lines of the run don't fit: then as much as fits is written. With 2, 3 and 7 the text ends with a fault line,
+/// which is cut off if it doesn't fit.
 #[unsafe(no_mangle)]
 pub extern "C" fn pmu_replay(
     alloc: Global,

@@ -1,4 +1,4 @@
-//! The lines of the last step are written.
+//! Writing the lines of the last step.
 
 ghost use Rattle.std.specs.Prelude.{◌≡◌, ◌≤◌, [], ◌∷◌, None, IfOk, take, length};
 ghost use Rattle.pm_controller.specs.Controls.{text_of};
@@ -12,9 +12,12 @@ use pm_slot::{Held, Slot};
 use pm_trace::TextLine;
 use std::alloc::{AllocError, Global};
 
-/// The lines of the last step, with this number before each, are written to `text`, of which the first `written` bytes are
-/// written then. Answers `DONE`; `NO_ROOM` if they don't fit, and then as many bytes as fit; `COMMAND_LEFT` if the step
-/// isn't over; `NO_MEMORY`; and `CLOSED`. Nothing else changes.
+/// Writes the lines of the last step to the front of `text`, each after this number. `written` is the number of bytes
+/// that were written: 0 unless the answer is `DONE` or `NO_ROOM`. The controller stays as it is.
+///
+/// Answers `DONE` if all lines were written; `NO_ROOM` if they don't fit: then as much as fits is written;
+/// `COMMAND_LEFT` if the step isn't over, since a command waits for its answer; `NO_MEMORY` for want of memory; and
+/// `CLOSED` if the handle holds no controller.
 pub fn write_text(
     alloc: Global,
     pmu: &mut Slot,
