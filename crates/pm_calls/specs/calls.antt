@@ -81,7 +81,7 @@ called m (call.ResetGetStatus line) book = reset_get_status (line_status line bo
 called m call.InitFinalize book = init_finalize m
 called m call.Unknown book = effecting (record unchecked { known = false }) (saying None)
 
--- a call of one stage at most: any but those that take processors down
+-- a call of one stage at most: any but FORCE_POWERDOWN and SYSTEM_SHUTDOWN
 abbrev pub is_once : Call → Bool
 is_once (call.ForcePowerdown node ack) = false
 is_once (call.SystemShutdown shutdown_type subtype) = false

@@ -1,4 +1,4 @@
-//! The calls, one file each, and which of them a message makes.
+//! The calls, one file each; which of these files serves a call; and what can be told from a call before it is served.
 
 ghost use Rattle.std.specs.Prelude.{◌≡◌, true, false};
 ghost use Rattle.pm_calls.specs.Verdict.{stages_of, verdict_of};
@@ -35,8 +35,9 @@ use pm_ipi::status::NO_FEATURE;
 use pm_state::Tables;
 use pm_values::{Along, Caches};
 
-/// One call, where the verdict is left in a place of the caller. The modes are logged between its stages: a call of one
-/// stage at most logs nothing.
+/// Judges a call of the master at place `master`: leaves the verdict in `verdict`, and if the call is accepted, makes
+/// its changes of the book. Between two stages of the call the modes are logged in `along`: a call of one stage at most
+/// logs nothing.
 #[inline(never)]
 pub fn serve(
     tables: &mut Tables,
@@ -66,8 +67,8 @@ pub fn serve(
     }
 }
 
-/// A call of one stage at most: one that only reads, or by which a master or a processor suspends, goes on or wakes. The
-/// others follow in `serve_changing`.
+/// Serves a call of one stage at most. It has those calls that only read the book, and those by which a master or a
+/// processor suspends, goes on in place of suspending, or wakes. The others are in `serve_changing`.
 fn serve_once(
     tables: &mut Tables,
     caches: &Caches,
@@ -109,8 +110,8 @@ fn serve_once(
     }
 }
 
-/// Another call of one stage at most: it changes a row, a notifier, a reset line or the object in force. One of a number
-/// that no call has is refused.
+/// Serves any other call of one stage at most: it changes rows of the caller, a notifier, a reset line with the
+/// processor that it resets, or the object in force. Refused with NO_FEATURE if no call has its number.
 fn serve_changing(tables: &mut Tables, master: usize, call: &Call, verdict: &mut Verdict)
     requires once { is_once call.now ≡ true }
     requires changes { only_reads call.now ≡ false }
@@ -165,7 +166,7 @@ pub fn only_reads(call: &Call) -> bool
     )
 }
 
-/// Whether a call has one stage at most: it is none that takes processors down.
+/// Whether a call has one stage at most: it is neither FORCE_POWERDOWN nor SYSTEM_SHUTDOWN.
 #[inline]
 pub fn is_once(call: &Call) -> bool
     ensures { result ≡ is_once call.now }
@@ -176,8 +177,8 @@ pub fn is_once(call: &Call) -> bool
     )
 }
 
-/// Whether a call changes no value: the caller is told of a node, another master is asked to suspend, or a processor
-/// of the caller that is active starts to suspend, or goes on in place of suspending.
+/// Whether a call changes no value of a unit: by it the caller is told of a node or not any more, another master is
+/// asked to suspend, or a processor of the caller starts to suspend, or goes on in place of suspending.
 #[inline]
 pub fn keeps_values(call: &Call) -> bool
     ensures { result ≡ keeps_values (shape_of call.now) }
@@ -191,8 +192,8 @@ pub fn keeps_values(call: &Call) -> bool
     )
 }
 
-/// The node of the slave on which a call changes the caller's row, if it does. Such a call changes nothing else of
-/// the book.
+/// The node of the slave of which a call changes the caller's row, if it is such a call. Then it changes nothing else
+/// of the book.
 #[inline]
 pub fn row_node(call: &Call) -> Option<NodeId>
     ensures { result ≡ row_node (shape_of call.now) }

@@ -39,8 +39,8 @@ abbrev pub is_once_in : Option Served → Bool
 is_once_in None = true
 is_once_in (Some served) = is_once served.call
 
--- an event has no stage, by the verdict on its message, and nothing is logged along it, since its call is none that
--- takes processors down
+-- an event has no stage, by the verdict on its message, and nothing is logged along it, since its call has one stage at
+-- most
 abbrev pub rests : Event → Option Served → Bool
 rests event served = not (may_change event served) && is_once_in served
 

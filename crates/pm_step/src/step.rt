@@ -245,8 +245,8 @@ fn is_once_in(served: &Option<Served>) -> bool
     }
 }
 
-/// Whether an event has no stage, by the verdict on its message, and nothing was logged along it, since its call is
-/// none that takes processors down.
+/// Whether an event has no stage, by the verdict on its message, and nothing was logged along it, since its call has
+/// one stage at most.
 fn rests(event: &Event, served: &Option<Served>) -> bool
     ensures { result ≡ rests event.now served.now }
 {
