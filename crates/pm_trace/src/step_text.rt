@@ -1,4 +1,5 @@
-//! The text of a core step of few lines, made from its end to its front.
+//! The text of a core step of few lines, which is written in one piece for speed alone. It is made from its end to its
+//! front, as the digits of a number are found.
 
 ghost use Rattle.std.specs.Prelude.{◌≡◌, ◌+◌, ◌*◌, ◌<◌, ◌≤◌, ◌++◌, ◌∷◌, [], IsTrue, decimal, drop, length, map, option_to_list};
 ghost use Rattle.pm_trace.specs.declared.step.StepLine.TheVariants as told;
@@ -13,7 +14,7 @@ use pm_core::{Answer, Done, Outbox, Start};
 use pm_ipi::Response;
 use std::marker::Model;
 
-/// The bytes that the text of a step of few lines has room for: those lines have (8 + 2 + 1) * 91 = 1,001 at most.
+/// The room for the text of a step of few lines, in bytes. It has (8 + 2 + 1) * 91 = 1,001 at most.
 const ROOM: usize = 1024;
 /// The most commands of a step of few lines.
 const COMMANDS: usize = 8;
@@ -24,7 +25,7 @@ const STARTS: usize = 2;
 #[derive(Drop)]
 struct Number {
     value: u32,
-    /// The digits before the last one, from `start` on.
+    /// The digits but the last one: those from place `start` on.
     digits: [u8; 8],
     start: usize,
     last: u8,
@@ -42,7 +43,7 @@ impl Model for Number {
 }
 
 impl Number {
-    /// Puts it before what stands from `at` on. Answers where it begins.
+    /// Writes its digits so that they end before `text[at]`. Answers the place of the first one.
     #[inline(always)]
     fn put(&self, text: &mut [u8], at: usize) -> usize
         requires room { 10 ≤ at }
@@ -56,11 +57,12 @@ impl Number {
     }
 }
 
-/// Ten numbers that differ in their last digit alone, with the digits before it. Contracts see the first of them.
+/// The ten numbers that differ in their last digit alone, as 120 to 129, with the digits before it: so these aren't
+/// found anew for each step. Contracts see the first of the ten.
 #[derive(Drop)]
 struct Tens {
     first: u32,
-    /// The digits before the last one, from `start` on.
+    /// The digits that the ten have in common: those from place `start` on.
     digits: [u8; 8],
     start: usize,
 }
@@ -89,8 +91,8 @@ impl Tens {
         }
     }
 
-    /// Moves to those among which a number is, if it has at most nine digits: the digits before the last one have no room
-    /// for more. Answers whether it is among them then.
+    /// Makes these the ten numbers that `n` is one of, and answers true. If `n` has ten digits, it answers false and
+    /// nothing changes: there is room for nine.
     #[inline(always)]
     fn move_to(&mut self, n: u32) -> bool
         ensures from { IsTrue result → self.new ≤ n }
@@ -103,7 +105,7 @@ impl Tens {
         }
     }
 
-    /// Moves to the ten numbers among which a number is, if it isn't among those that are kept yet.
+    /// As `move_to`, for a number that isn't one of these ten yet: finds the digits anew.
     #[inline(never)]
     fn find(&mut self, n: u32) -> bool
         ensures from { IsTrue result → self.new ≤ n }
@@ -122,7 +124,7 @@ impl Tens {
         true
     }
 
-    /// One of them.
+    /// The number `n`, which is one of these ten, with its digits.
     #[inline(always)]
     fn number(&self, n: u32) -> Number
         requires from { self.now ≤ n }
@@ -141,8 +143,10 @@ impl Tens {
 /// The text of a core step of few lines. Contracts see its bytes.
 #[derive(Drop)]
 pub struct StepText {
+    /// The bytes from place `start` on are the text.
     text: [u8; 1024],
     start: usize,
+    /// The numbers near that of the last step that was written.
     tens: Tens,
 }
 
@@ -177,10 +181,10 @@ impl StepText {
         bytes_from(&self.text, self.start)
     }
 
-    /// Leaves the text of a core step of script line `n` that is answered so. The answer is whether it has room: not for
-    /// many commands or starts, none for other lines than those of commands, starts and the answer, and none for a number
-    /// `n` of ten digits. Where it has none, nothing is promised of it: a caller writes such a step line by line, so that
-    /// this is for speed alone.
+    /// Makes this the text of a core step of script line `n` with this answer, and answers true, if the step is short
+    /// enough: at most eight commands and two starts, no late reply, no callback but the acknowledgement in its answer,
+    /// and a number `n` of at most nine digits. Otherwise it answers false, and nothing is promised of the bytes: the
+    /// caller then writes the step line by line. So this is for speed alone.
     #[inline(always)]
     pub fn fill(&mut self, n: u32, out: &Outbox, answer: &Answer) -> bool
         ensures { IsTrue result
@@ -197,7 +201,7 @@ impl StepText {
     }
 }
 
-/// The bytes of a text from a place on.
+/// The bytes of a text from place `from` on.
 fn bytes_from(text: &[u8; 1024], from: usize) -> &[u8]
     requires { from ≤ 1024 }
     ensures value { result.now ≡ drop from text.now }
@@ -206,7 +210,8 @@ fn bytes_from(text: &[u8; 1024], from: usize) -> &[u8]
     &text[from..]
 }
 
-/// Whether a step has few commands and starts, and tells nothing else but its answer.
+/// Whether a step has at most `COMMANDS` commands and `STARTS` starts, no late reply, and no callback beside its
+/// answer.
 #[inline(always)]
 fn is_short(out: &Outbox) -> bool
     ensures commands { IsTrue result → length out.now.done.items ≤ COMMANDS }
@@ -220,7 +225,8 @@ fn is_short(out: &Outbox) -> bool
         && out.callbacks.as_slice().is_empty()
 }
 
-/// Puts the line of an answer at the end of a text, if one is written. Answers where it begins.
+/// Writes the line of an answer at the end of a text, if the answer has one. Answers the place at which the line
+/// begins, and `ROOM` if there is none.
 #[inline(always)]
 fn put_last(text: &mut [u8; 1024], number: &Number, answer: &Answer) -> usize
     ensures room { ROOM ≤ result + LINE }
@@ -233,7 +239,7 @@ fn put_last(text: &mut [u8; 1024], number: &Number, answer: &Answer) -> usize
     }
 }
 
-/// Puts the line of any answer at the end of a text, if one is written: an answer that isn't a reply is rare.
+/// As `put_last`, for any answer. It is called for those that aren't replies: they are rare, and this isn't inlined.
 #[inline(never)]
 fn put_rare(text: &mut [u8; 1024], n: u32, answer: &Answer) -> usize
     ensures room { ROOM ≤ result + LINE }
@@ -247,7 +253,7 @@ fn put_rare(text: &mut [u8; 1024], n: u32, answer: &Answer) -> usize
     }
 }
 
-/// Puts the line of a reply at the end of a text. Answers where it begins.
+/// Writes the line of a reply at the end of a text. Answers the place at which the line begins.
 #[inline(always)]
 fn put_reply(text: &mut [u8; 1024], number: &Number, master: NodeId, response: &Response) -> usize
     ensures room { ROOM ≤ result + LINE }
@@ -259,7 +265,8 @@ fn put_reply(text: &mut [u8; 1024], number: &Number, master: NodeId, response: &
     number.put(text, at)
 }
 
-/// Puts the lines of processors that start in step `n` before what stands from `at` on. Answers where they begin.
+/// Writes the lines of the processors that start in step `n`, in order, so that they end before `text[at]`. Answers the
+/// place at which they begin.
 #[inline(always)]
 fn put_starts(text: &mut [u8; 1024], at: usize, n: u32, starts: &[Start]) -> usize
     requires few { length starts.now ≤ STARTS }
@@ -278,7 +285,7 @@ fn put_starts(text: &mut [u8; 1024], at: usize, n: u32, starts: &[Start]) -> usi
     from
 }
 
-/// Puts the lines of commands before what stands from `at` on. Answers where they begin.
+/// Writes the lines of commands, in order, so that they end before `text[at]`. Answers the place at which they begin.
 #[inline(always)]
 fn put_commands(text: &mut [u8; 1024], at: usize, number: &Number, commands: &[Done]) -> usize
     requires few { length commands.now ≤ COMMANDS }
@@ -296,7 +303,7 @@ fn put_commands(text: &mut [u8; 1024], at: usize, number: &Number, commands: &[D
     from
 }
 
-/// Puts the line of a command before what stands from `at` on. Answers where it begins.
+/// Writes the line of a command so that it ends before `text[at]`. Answers the place at which it begins.
 #[inline(always)]
 #[tactic(auto, using(crate::proofs::LineLemmas::line_before))]
 fn put_command(text: &mut [u8], at: usize, number: &Number, done: &Done) -> usize
