@@ -85,8 +85,8 @@ impl Rows {
         Ok(Rows { table, known })
     }
 
-    /// Names each field by a pattern that has no rest: the rows are in the table alone, beside the modes. A further field
-    /// has to be named here.
+    /// Doesn't compile once a field is missing from its pattern. So whoever adds a field has to name it here, and to
+    /// see that it is no second copy of the rows: they are in `table` alone.
     pub fn name_fields(&self) {
         let Rows { table, known: _ } = self;
         table.name_fields();

@@ -82,8 +82,8 @@ fn stays_narrow(narrow: bool, caps: Caps) -> bool
 }
 
 impl Table {
-    /// Names each field by a pattern that has no rest: what a row is now stands in the cells and counts alone. The pairs,
-    /// their places and whether all capabilities were known ones are beside them, with the room.
+    /// Doesn't compile once a field is missing from its pattern. So whoever adds a field has to name it here, and to
+    /// see that it is no second copy of the rows: what a row is now is in the cells and the counts alone.
     pub(crate) fn name_fields(&self) {
         let Table {
             seeds: _,

@@ -91,8 +91,8 @@ impl Tables {
         let _chip = &self.topology;
     }
 
-    /// Names each field by a pattern that has no rest: the rows are in `rows` alone. A further field has to be named
-    /// here.
+    /// Doesn't compile once a field is missing from its pattern. So whoever adds a field has to name it here, and to
+    /// see that it is no second copy of the rows: they are in `rows` alone.
     pub fn name_fields(&self) {
         let Tables {
             object: _,

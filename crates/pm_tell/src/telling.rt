@@ -1,5 +1,5 @@
-//! The log of a step for telling the masters of it: their modes before it, the changes of their modes along it, and the
-//! news.
+//! The log of a step, by which the masters are told of it: their modes before it, the changes of their modes along it,
+//! and the news.
 
 ghost use Rattle.std.specs.Prelude.{◌≡◌, ◌+◌, ◌<◌, ◌≤◌, ◌++◌, [], ℕ, IfOk, flat_map, length, true};
 ghost use Rattle.pm_procs.specs.Pending.{pending_at};
@@ -17,20 +17,24 @@ use pm_state::Tables;
 use pm_values::{Along, Turns, log_modes};
 use std::alloc::Global;
 
-/// The log of a step: the modes of the masters before it, the changes of their modes along it, the master that is
-/// asked to suspend in it, the requests that end in it, with room for one for each master, and the events of nodes in
-/// it, with room for two notes about each unit.
+/// The log of a step.
 #[derive(Drop)]
 pub struct Telling {
+    /// The mode of each master before the step.
     pub modes: Vec<Mode>,
+    /// The changes of their modes along the step.
     pub along: Along,
+    /// The master that is asked to suspend in the step.
     asks: Option<Asked>,
+    /// The requests to suspend that end in the step. There is room for one to each master.
     ended: BoundedList<Ended>,
+    /// The events of nodes in the step. There is room for two of each unit.
     pub notices: BoundedList<Waiting>,
 }
 
 impl Telling {
-    /// Names each field by a pattern that has no rest: none of them has a row. A further field has to be named here.
+    /// Doesn't compile once a field is missing from its pattern. So whoever adds a field has to name it here, and to
+    /// see that it is no second copy of the rows: no field is.
     pub fn name_fields(&self) {
         let Telling {
             modes: _,
@@ -41,7 +45,11 @@ impl Telling {
         } = self;
     }
 
-    /// Room for so many units, masters and processors.
+    /// An empty log, with room for the steps of a book of so many units, masters and processors.
+    ///
+    /// # Errors
+    ///
+    /// `NoMemory` if there is not enough memory.
     pub fn load(
         alloc: Global,
         units: usize,
@@ -63,29 +71,32 @@ impl Telling {
         })
     }
 
-    /// The master that is asked to suspend in the step.
+    /// The master that is asked to suspend in the step, if one is.
     pub(crate) fn asks(&self) -> Option<Asked>
         ensures { result ≡ self.now.asks }
     {
         self.asks
     }
 
-    /// The requests that end in the step, in object order of the masters that were asked.
+    /// The requests to suspend that end in the step, in the order in which the object lists the masters that were
+    /// asked.
     pub(crate) fn ended(&self) -> &[Ended]
         ensures { result.now ≡ self.now.ended.items }
     {
         self.ended.as_slice()
     }
 
-    /// Whether no master is asked to suspend in the step, no request ends in it, and none has asked to be told of its
-    /// events of nodes.
+    /// A quick test: true only if there is no news for any master. No master is asked to suspend in the step, no
+    /// request to suspend ends in it, and no notifier is for an event of a node in it. It may be false although all of
+    /// this holds.
     pub(crate) fn has_no_news(&self, tables: &Tables) -> bool
         ensures { result ≡ true → IsQuiet (news_in self.now) tables.now.now.talk.notes }
     {
         self.asks.is_none() && self.ended().is_empty() && self.has_no_notice(tables)
     }
 
-    /// Whether nothing happens to nodes, or no master has asked to be told of anything.
+    /// A quick test: true only if no notifier is for an event of a node in the step. It is true if nothing happens to a
+    /// node in the step, or if it is known that no master has a notifier.
     fn has_no_notice(&self, tables: &Tables) -> bool
         ensures { result ≡ true → (k : ℕ)
             → flat_map (noticed_by (notes_of_master k tables.now)) self.now.notices.items ≡ [] }
@@ -113,8 +124,10 @@ impl Telling {
         log_modes(tables, &mut self.modes);
     }
 
-    /// Logs the master that is asked, and the requests that end: by what became of the modes along the
-    /// step, by the master that aborts its suspend, and by the time that passes.
+    /// Logs the news that isn't about nodes, by what the call of the step has masters told (`says`) and the time that
+    /// passes in the step (`count`), if any does: the master that the call asks to suspend, and the requests to suspend
+    /// that end. A request ends by a change of the mode of the master that was asked, by a call with which that master
+    /// aborts its suspend, or because its time is over. Before it the changes of modes are to be logged.
     pub(crate) fn log_ended(&mut self, tables: &Tables, says: Option<Say>, count: Option<u32>)
         requires each { length tables.now.now.talk.pending ≡ length tables.now.fixed.object.masters }
         requires room { length tables.now.fixed.object.masters ≤ self.old.ended.room }
@@ -129,7 +142,7 @@ impl Telling {
         }
     }
 
-    /// No master is asked, and no request ends.
+    /// Logs that no master is asked to suspend and that no request ends. The events of nodes stay.
     pub(crate) fn clear_news(&mut self)
         ensures { self.new ≡ without_news self.old }
     {
@@ -137,7 +150,7 @@ impl Telling {
         self.ended.clear();
     }
 
-    /// Logs the end of what is pending on the master at a place.
+    /// Logs the end of the request that is pending on the master at place `m`, if there is one and it ends in the step.
     fn log_end(&mut self, tables: &Tables, aborts: Option<usize>, count: Option<u32>, m: usize)
         requires room { length self.old.ended.items < self.old.ended.room }
         ensures { self.new ≡ record self.old {

@@ -65,7 +65,8 @@ impl Caches {
         })
     }
 
-    /// Names each field by a pattern that has no rest: none of them has a row. A further field has to be named here.
+    /// Doesn't compile once a field is missing from its pattern. So whoever adds a field has to name it here, and to
+    /// see that it is no second copy of the rows: no field is.
     pub fn name_fields(&self) {
         let Caches {
             kinds: _,
