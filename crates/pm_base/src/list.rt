@@ -1,4 +1,4 @@
-//! A list that contracts see as a list.
+//! A list that grows, over a `Vec`.
 
 ghost use Rattle.std.specs.Prelude.{◌≡◌, ◌<◌, ◌↔◌, ◌++◌, ◌∷◌, [], length, slice_get, IsTrue, OnOk, OnErr};
 
@@ -6,7 +6,7 @@ use crate::errors::NoMemory;
 use std::alloc::Global;
 use std::marker::Model;
 
-/// A list that grows at its end. Contracts see it as the list of its items.
+/// A list that grows at its end. Contracts see the list of its items.
 #[derive(Debug, Drop)]
 pub struct List<T> {
     items: Vec<T>,
@@ -64,8 +64,11 @@ impl<T> List<T> {
 }
 
 impl<T: Drop> List<T> {
-    /// Puts an item at the end. Where there is no memory for it nothing changes, and the item is
-    /// dropped.
+    /// Puts an item at the end.
+    ///
+    /// # Errors
+    ///
+    /// `NoMemory` if there is no memory for it. The list stays as it was, and the item is dropped.
     pub fn push(&mut self, item: T) -> Result<(), NoMemory>
         ensures ok { OnOk result (self.new ≡ self.old ++ item ∷ []) }
         ensures err { OnErr result (self.new ≡ self.old) }

@@ -1,4 +1,4 @@
-//! Laws of the rows.
+//! Laws of the rows: what holds of their model, for the proofs of crates above.
 
 ghost use Rattle.std.specs.Prelude.{◌≡◌, ◌≢◌, ◌<◌, ◌⊎◌, ◌==◌, if◌then◌else◌, ℕ, Bool, List, IsTrue, None, Some, is_some, map, nat_lt, count_by, length};
 ghost use Rattle.std.specs.List.{All};
@@ -16,9 +16,10 @@ ghost use Rattle.pm_rows.specs.Shift.{shifted_row, shift_at, shifted};
 ghost use Rattle.pm_rows.specs.Sound.{AreOnce, AreRemadeRight, AreSound, IsFit, IsLoadable, is_pair};
 ghost use Rattle.pm_rows.specs.Wanted.{wanted_of};
 
-/// Rows at load are sound, and so are rows that are made anew, for whatever pairs. Each operation keeps them so: a change
-/// of a row that fits, a change of a master's mode, dropped holds, and rows that are cleared, on one slave or all. In sound
-/// rows a pair has a row exactly if it is permitted, and what is wanted of a slave is within its capabilities.
+/// Rows are sound from the load on. They are at load, and when they are made anew for other pairs, if these pairs may
+/// be loaded or made anew. They stay sound when a row changes by a change that fits it, when a master changes its mode,
+/// when a master drops its holds, and when rows are cleared, those on one slave or all. In sound rows a pair has a row
+/// exactly if it is permitted, and what masters require of a slave is within its capabilities.
 pub fn rows_stay_sound()
     ensures load { (masters slaves boot room : ℕ) (seeds : List RowSeed)
         → AreOnce (map pair_of seeds) → All (IsLoadable masters boot) seeds
@@ -42,8 +43,9 @@ pub fn rows_stay_sound()
         → All (λ pair. pair.slave ≡ s → pair.all ≡ all) permitted → IsTrue (has_all all (wanted_of s rows).caps) }
 {}
 
-/// The modes that the rows know: at load all masters are off but one, a change of a mode is known from
-/// then on and no other mode moves, and rows that are made anew know the modes that were known.
+/// The rows know the mode of each master. At load one master is active, and all others are off. When a master changes
+/// its mode, the rows know the new mode from then on, and the modes of the others as before. Rows that are made anew
+/// know the same modes as before. The number of masters whose mode is known is that at load, and stays.
 pub fn rows_know_modes()
     ensures load { (masters slaves boot room m : ℕ) (seeds : List RowSeed) → boot < masters
         → mode_of m (loaded_rows masters slaves boot room seeds) ≡ (if m == boot then Active else Off) }
@@ -56,9 +58,10 @@ pub fn rows_know_modes()
     ensures remade { (rows : spec.Rows) (seeds : List RowSeed) → (remade seeds rows).known ≡ rows.known }
 {}
 
-/// What a shift leaves: the rows of all other masters are as they were, each row keeps its pair, and what
-/// it is armed with stays or is dropped. What a row is armed with and whether it is held afterwards depends
-/// on what it was before and on the two modes alone.
+/// What a change of a master's mode leaves as it is: the rows of all other masters, and the pair of each row. A row
+/// stays armed with the same processor, or isn't armed any more. Which of the two depends only on the modes before and
+/// after, and on what the row was armed with. Whether the row has a hold afterwards depends only on the two modes, and
+/// on whether it had one.
 pub fn shifts_leave_others()
     ensures others { (rows : List Entry) (m : ℕ) (from to : Mode) (entry : Entry)
         → entry.seed.master ≢ m → shift_at rows m from to entry ≡ entry }

@@ -1,4 +1,5 @@
-//! Where a node stands in a topology, and which power nodes are above it.
+//! The places of nodes and reset lines in the lists of a topology, the processors of a master, and the power nodes
+//! above a node. A place is counted from 0.
 
 ghost use Rattle.std.specs.Prelude.{◌≡◌, ◌<◌, ◌↔◌, ◌==◌, IsTrue, find, length, position};
 ghost use Rattle.std.specs.List.{list_any};
@@ -21,7 +22,7 @@ pub enum Kind {
 }
 
 impl Topology {
-    /// The list and the place of the entry that has this number.
+    /// What the node of this number is, with its place in the list of its kind; `Unknown` if the chip has no such node.
     pub fn kind(&self, n: NodeId) -> Kind
         ensures place { result ≡ kind_of self.now n }
         ensures entry { IsKind self.now n result }
@@ -30,7 +31,7 @@ impl Topology {
         self.search(n)
     }
 
-    /// The place of the reset line that has this number.
+    /// The place of the reset line that has this number, if there is one.
     pub fn line_place(&self, line: LineId) -> Option<usize>
         ensures { result ≡ line_place self.now.lines line.0 }
     {
@@ -40,7 +41,8 @@ impl Topology {
             .position(|def| def.line.0 == line.0)
     }
 
-    /// The processors of the master with a number, the first one first; none if no master has the number.
+    /// The numbers of the processors of the master with this number, in their order in the topology; none if the chip
+    /// has no such master.
     pub fn procs_of(&self, master: NodeId) -> &[NodeId]
         ensures { result.now ≡ procs_of self.now master.0 }
     {
@@ -50,7 +52,8 @@ impl Topology {
         }
     }
 
-    /// The first of processors, power nodes and slaves that has this number: of slaves there are the most.
+    /// As `kind`. It searches the processors, then the power nodes, and last the slaves, since there are the most of
+    /// these.
     fn search(&self, n: NodeId) -> Kind
         ensures { result ≡ kind_of self.now n }
     {
@@ -66,8 +69,7 @@ impl Topology {
         }
     }
 
-    /// Whether a processor, slave or power node has the power node at place `w` above it, at any
-    /// height.
+    /// Whether the power node at place `w` is above the node `n`, at any height.
     pub fn below(&self, w: usize, n: NodeId) -> bool
         requires { w < length self.now.powers }
         ensures above { result ≡ is_below self.now w n }
@@ -76,14 +78,15 @@ impl Topology {
         is_on_way_up(self.powers.as_slice(), self.parent(n), w)
     }
 
-    /// The place of the power node directly above a node.
+    /// The place of the power node directly above a node; none if the chip has no such node, or if nothing is above it.
     pub(crate) fn parent(&self, n: NodeId) -> Option<usize>
         ensures { result ≡ parent_at self.now (kind_of self.now n) }
     {
         self.parent_by(self.kind(n))
     }
 
-    /// The place of the power node directly above a node of this kind.
+    /// The place of the power node directly above the node of this kind and place; none for `Unknown`, for a place past
+    /// the end of its list, and for a power node with none above it.
     pub fn parent_by(&self, kind: Kind) -> Option<usize>
         ensures { result ≡ parent_at self.now kind }
     {
@@ -96,7 +99,7 @@ impl Topology {
     }
 }
 
-/// The entry of the master with a number.
+/// The entry of the master with this number, if there is one.
 fn entry_of(masters: &[MasterDef], master: NodeId) -> Option<&MasterDef>
     ensures { option_copied result ≡ find (λ (def : MasterDef). def.node.0 == master.0) masters.now }
 {
@@ -124,14 +127,14 @@ fn power_place(powers: &[PowerDef], n: NodeId) -> Option<usize>
     powers.iter().position(|power| power.node == n)
 }
 
-/// The place of the parent of the power node at a place, if it has one.
+/// The place of the power node directly above the power node at a place, if there is one.
 fn parent_of_power(powers: &[PowerDef], place: usize) -> Option<usize>
     ensures { result ≡ power_parent powers.now place }
 {
     powers.get(place).and_then(|power| power.parent)
 }
 
-/// Whether one meets the power node at place `w` on the way up from `from`.
+/// Whether the power node at place `w` is the one at `from` or is above it, at any height; false if `from` is none.
 fn is_on_way_up(powers: &[PowerDef], from: Option<usize>, w: usize) -> bool
     ensures { result ≡ list_any (λ v. v == w) (upwards (length powers.now) powers.now from) }
 {
