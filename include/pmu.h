@@ -98,8 +98,8 @@ uint32_t pmu_version(void);
  * OBJ SCRIPT` does, but with no modules and no timed tasks. The text of the run goes to `text`, of which `size`
  * bytes may be written, and *written is how many were.
  * PMU_DONE: exactly the text of the run was written (proved). PMU_BAD_OBJECT, PMU_BAD_LINE, PMU_TOO_LARGE: the text
- * ends with the fault line. PMU_NO_ROOM: it breaks off at `size`. PMU_NO_MEMORY: it is empty or the line `fault
- * memory`. The buffers are yours, and nothing of them is kept. */
+ * ends with the fault line, which is cut off at `size` if it doesn't fit. PMU_NO_ROOM: the text breaks off at `size`.
+ * PMU_NO_MEMORY: it is empty or the line `fault memory`. The buffers are yours, and nothing of them is kept. */
 uint32_t pmu_replay(const uint8_t *object, size_t object_size, const uint8_t *script, size_t script_size,
                     uint8_t *text, size_t size, size_t *written);
 
