@@ -1,5 +1,5 @@
 -- A calm change of a master's mode leaves the rows that rest.
-use Rattle.std.proofs.Common.{◌≡◌, ℕ, ◌+◌, ◌<◌, ◌^◌, ◌==◌, ◌&&◌, Bool, true, false, not, if◌then◌else◌, List, length, Some, refl, sym, ◌∙◌, ap, subst, arith}
+use Rattle.std.proofs.Common.{◌≡◌, ℕ, ◌+◌, ◌<◌, ◌^◌, ◌==◌, ◌&&◌, Bool, true, false, not, if◌then◌else◌, List, length, Some, refl, sym, ◌∙◌, ap, subst}
 use Rattle.std.specs.Prelude.{◌||◌, bit_and, is_some, slice_get}
 use Rattle.std.proofs.lemmas.Bool.{eqb-true}
 use Rattle.pm_base.specs.declared.names.Mode.{Mode}
@@ -12,12 +12,10 @@ use Rattle.pm_rows.specs.Modes.{mode_in}
 use Rattle.pm_rows.specs.Rows.{no_caps}
 use Rattle.pm_rows.specs.Wanted.{arming_differs, both, by_hold, by_use, required_by, wakeup, while_asleep}
 use Rattle.pm_rows.specs.Shift.{exchanged, is_calm, restored, shifted_row, turned_row, unscheduled}
-use Rattle.pm_rows.specs.Cost.{put_cost}
-use Rattle.pm_rows.specs.Counted.{Table, counted, counted_in, permitted_on}
-use Rattle.pm_rows.proofs.Paid.{alike_free}
+use Rattle.pm_rows.specs.Counted.{Table, counted, counted_in}
 use Rattle.pm_rows.specs.Passes.{rests}
 use Rattle.pm_rows.specs.Passing.{IsPut, MayPutAt}
-use Rattle.pm_rows.proofs.Tallies.{moved_same, set_same}
+use Rattle.pm_rows.proofs.Left.{stay_put}
 
 -- where a row that rests is used, it wants now what it wants next
 wants_next : (differs : Bool) (x : Entry) → rests differs x ≡ true → x.row.used ≡ true → x.row.now ≡ x.row.next
@@ -133,20 +131,8 @@ rest_put k known from to taken table start steps x entry at here resting calm pl
     let own : rests (arming_differs from to) x ≡ true = ap (rests (arming_differs from to)) (sym same) ∙ resting in
     let room : x.seed.slave < length table.tally.users = subst (λ (e : Entry). e.seed.slave < length table.tally.users) same placed in
     let left : shifted_row from to taken x.row ≡ x.row = stays x.row (wants_next (arming_differs from to) x own) from to taken calm in
-    let free : put_cost (counted known x) (counted_in to x) (permitted_on x.seed.slave table.entries) ≡ 0 =
-    alike_free (counted known x) (counted_in to x) (permitted_on x.seed.slave table.entries)
-    (sym (ap (λ m. required_by m x) mode ∙ wants_same from to x own)) refl refl
-    in
-    let P : Row → Type 0 = λ row. IsPut k (counted known x) (counted_in to (record x { row = row })) table start table steps in
-    subst P (sym left) (record {
-      placed = room;
-      entries = sym (set_same table.entries k x at);
-      tally = sym (moved_same (counted known x) (counted_in to x) table.entries table.tally refl
-          (sym (ap (λ m. required_by m x) mode ∙ wants_same from to x own)) (may x at room few).limit);
-      slaves = refl;
-      room = refl;
-      cost = omega (arith, reads, free);
-    })
+    let alike : required_by to x ≡ required_by (mode_in x.seed.master known) x = sym (ap (λ m. required_by m x) mode ∙ wants_same from to x own) in
+    stay_put k x (mode_in x.seed.master known) to (shifted_row from to taken x.row) table start steps at room left alike (may x at room few).limit reads
 
 -- what a row requires, by what it requires by
 abbrev needs : Bool → Caps → Bool → Mode → Caps → Bool → Caps

@@ -1,16 +1,18 @@
 -- One row is made what its seed says.
-use Rattle.std.proofs.Common.{◌≡◌, ℕ, ◌+◌, ◌<◌, ◌^◌, List, [], ◌∷◌, map, length, Some, refl, sym, ◌∙◌, ap, subst, arith}
+use Rattle.std.proofs.Common.{◌≡◌, ℕ, ◌+◌, ◌<◌, ◌^◌, Bool, true, List, [], ◌∷◌, map, length, Option, Some, refl, sym, ◌∙◌, ap, subst, arith}
 use Rattle.std.specs.Prelude.{slice_get, slice_set}
 use Rattle.pm_base.specs.declared.names.Mode.{Mode}
 use Rattle.pm_rows.specs.declared.row.Entry.{Entry}
 use Rattle.pm_rows.specs.declared.row.Row.{Row}
 use Rattle.pm_rows.specs.declared.row.RowSeed.{RowSeed}
-use Rattle.pm_rows.specs.Counted.{AreReady, AreTallied, Counted, Table, Tally, blank_entry, counted, counted_in, entry_in, limit_of, moved}
-use Rattle.pm_rows.specs.Filling.{IsFilling, blank_of, AreFilled}
+use Rattle.pm_rows.specs.Counted.{AreReady, AreTallied, Counted, Table, Tally, blank_entry, blank_row, counted, counted_in, entry_in, limit_of, moved}
+use Rattle.pm_rows.specs.Filling.{IsFilling, blank_of, is_blank, AreFilled}
 use Rattle.pm_rows.specs.Modes.{mode_in}
 use Rattle.pm_rows.specs.Rows.{loaded, loaded_entry, pair_of}
 use Rattle.pm_cells.specs.Midway.{midway}
-use Rattle.pm_cells.proofs.Midway.{midway_end, midway_get, midway_len, midway_map, midway_set}
+use Rattle.pm_cells.proofs.Midway.{midway_end, midway_get, midway_len, midway_map, midway_same, midway_set}
+use Rattle.pm_base.specs.declared.caps.Caps.{Caps}
+use Rattle.pm_rows.proofs.Left.{both_true, caps_none, none_is, not_true}
 use Rattle.pm_rows.proofs.Tallies.{tallied_moved, tallied_ready, tallied_limit}
 
 map_twice : {X Y Z : Type 0} (f : X → Y) (g : Y → Z) (xs : List X) → map g (map f xs) ≡ map (λ x. g (f x)) xs
@@ -19,6 +21,14 @@ map_twice f g (x ∷ xs) = ap (λ zs. g (f x) ∷ zs) (map_twice f g xs)
 
 blank_map : (seeds : List RowSeed) → map blank_entry (map pair_of seeds) ≡ map blank_of seeds
 blank_map seeds = map_twice pair_of blank_entry seeds
+
+blank_is : (x : RowSeed) → is_blank x ≡ true → loaded_entry x ≡ blank_of x
+blank_is x blank =
+    let one = both_true _ _ blank in
+    let two = both_true _ _ one.1 in
+    ap (λ (s : Option Caps). loaded_entry (record x { start = s })) (none_is x.start one.0)
+    ∙ (ap (λ (c : Caps). record { seed = pair_of x; row = record blank_row { preset = c; hold = x.hold } }) (caps_none x.preset two.0)
+    ∙ ap (λ (h : Bool). record { seed = pair_of x; row = record blank_row { hold = h } }) (not_true x.hold two.1))
 
 pub fill_starts : (known : List Mode) (seeds : List RowSeed) (table : Table) → table.entries ≡ map blank_entry (map pair_of seeds)
     → AreTallied (map (counted known) table.entries) table.tally → IsFilling known seeds table 0 table
@@ -64,6 +74,18 @@ module _ (known : List Mode) (seeds : List RowSeed) (start table : Table) (k : �
   fill_limit s within =
       tallied_limit rows table.tally s table.entries is.kept within
       (is.changed ∙ sym (midway_map entry_in (λ seed. counted known (loaded_entry seed)) (λ seed. counted known (blank_of seed)) seeds k))
+
+  -- a row that is so already is left
+  pub fill_left : (x : RowSeed) → slice_get seeds k ≡ Some x → is_blank x ≡ true → IsFilling known seeds start (k + 1) table
+  fill_left x at blank =
+      let same : loaded_entry x ≡ blank_of x = blank_is x blank in
+      let P : List Counted → Type 0 = λ cs. AreTallied cs table.tally in
+      record {
+        changed = is.changed ∙ midway_same loaded_entry blank_of seeds k x at same;
+        kept = subst P (midway_same (λ seed. counted known (loaded_entry seed)) (λ seed. counted known (blank_of seed)) seeds k x at (ap (counted known) same)) is.kept;
+        slaves = is.slaves;
+        room = is.room;
+      }
 
   pub fill_next : (x : RowSeed) (entry : Entry) (mode : Mode) (row : Row) (next : Table) → slice_get seeds k ≡ Some x → slice_get table.entries k ≡ Some entry
       → mode ≡ mode_in entry.seed.master known → row ≡ loaded x → entry.seed.slave < length table.tally.users

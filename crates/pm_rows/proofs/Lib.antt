@@ -7,6 +7,7 @@ pub mod Changed
 pub mod Filled
 pub mod Kept
 pub mod Known
+pub mod Left
 pub mod Lists
 pub mod Loaded
 pub mod Mapped

@@ -1,5 +1,5 @@
 -- Rows that are made what their seeds say, one after another.
-use Rattle.std.specs.Prelude.{◌≡◌, ℕ, List, map}
+use Rattle.std.specs.Prelude.{◌≡◌, ℕ, Bool, ◌&&◌, ◌==◌, not, is_some, List, map}
 use Rattle.pm_base.specs.declared.names.Mode.{Mode}
 use Rattle.pm_rows.specs.declared.row.Entry.{Entry}
 use Rattle.pm_rows.specs.declared.row.RowSeed.{RowSeed}
@@ -10,6 +10,10 @@ use Rattle.pm_cells.specs.Midway.{midway}
 -- the row of the pair of a seed, which isn't used yet
 abbrev pub blank_of : RowSeed → Entry
 blank_of seed = blank_entry (pair_of seed)
+
+-- a seed whose row is as one that isn't used yet
+abbrev pub is_blank : RowSeed → Bool
+is_blank seed = not (is_some seed.start) && ((seed.preset.0 == 0) && not seed.hold)
 
 -- before place k the rows are what their seeds say, from there on none is used, and all are counted
 pub record IsFilling (known : List Mode) (seeds : List RowSeed) (start : Table) (k : ℕ) (table : Table) : Type 0 where

@@ -1,5 +1,5 @@
 -- A pass over all rows: which rows it touches, what it makes of them, and which modes are known afterwards.
-use Rattle.std.specs.Prelude.{ℕ, ◌+◌, Bool, true, false, ◌&&◌, not, is_some, ◌==◌, if◌then◌else◌, List, slice_set, cond}
+use Rattle.std.specs.Prelude.{ℕ, ◌+◌, Bool, true, false, ◌&&◌, ◌||◌, not, is_some, ◌==◌, if◌then◌else◌, List, slice_set, cond}
 use Rattle.pm_base.specs.declared.names.Mode.{Mode}
 use Rattle.pm_rows.specs.declared.row.Pair.{Pair}
 use Rattle.pm_rows.specs.declared.row.Row.{Row}
@@ -7,7 +7,7 @@ use Rattle.pm_rows.specs.declared.row.Entry.{Entry}
 use Rattle.pm_rows.specs.declared.passes.Pass.{Pass}
 use Rattle.pm_rows.specs.declared.passes.Pass.TheVariants.{One, Settle, Shift, DropSlave, Clear}
 use Rattle.pm_rows.specs.Rows.{applied, cleared}
-use Rattle.pm_rows.specs.Shift.{shifted_row, is_taken}
+use Rattle.pm_rows.specs.Shift.{shifted_row, is_start, is_taken}
 use Rattle.pm_rows.specs.Sound.{is_plain}
 use Rattle.pm_rows.specs.Modes.{mode_in}
 use Rattle.pm_rows.specs.Counted.{Counted, counted, counted_in, permitted_on}
@@ -33,6 +33,22 @@ row_after Clear entries entry = cleared entry.row
 -- modes; and nothing is scheduled in it
 abbrev pub rests : Bool → Entry → Bool
 rests differs entry = not (differs && is_some entry.row.armed) && is_plain entry.row
+
+-- an idle row: it isn't used, held or armed, and nothing is wanted by it or kept in it but its preset
+abbrev pub is_idle : Row → Bool
+is_idle row =
+    not row.used
+    && ((row.now.0 == 0)
+    && ((row.next.0 == 0) && (not row.hold && (not (is_some row.armed) && not (is_some row.latency)))))
+
+-- a row that a pass leaves as it is, and that is counted as before: there is no hold to drop; or the row is idle, and
+-- its master doesn't start with its preset
+abbrev pub is_left : Pass → Row → Bool
+is_left (One m s by) row = false
+is_left (Settle m) row = not row.hold
+is_left (Shift m from to) row = is_idle row && (not (is_start from to) || (row.preset.0 == 0))
+is_left (DropSlave s) row = is_idle row
+is_left Clear row = is_idle row
 
 -- each row after the pass
 abbrev pub passed : Pass → List Entry → Entry → Entry

@@ -18,7 +18,8 @@ fn seed_at(seeds: &[RowSeed], k: usize) -> RowSeed
     seeds[k]
 }
 
-/// Makes each row what its seed says, and counts it in the mode of its master. None of them is used before.
+/// Makes each row what its seed says, and counts it in the mode of its master. None of them is used before. A row
+/// that is so already is left.
 pub(crate) fn fill<L: Ledger>(
     table: &mut Table,
     known: &[Mode],
@@ -34,9 +35,11 @@ pub(crate) fn fill<L: Ledger>(
 {
     for k in 0..seeds.len() {
         let seed = seed_at(seeds, k);
-        let entry = table.entry(k, steps);
-        let mode = mode_in(known, entry.seed.master);
-        let loaded = Entry::loaded(seed);
-        table.put(k, entry, mode, loaded.row, mode, steps);
+        if !seed.is_blank() {
+            let entry = table.entry(k, steps);
+            let mode = mode_in(known, entry.seed.master);
+            let loaded = Entry::loaded(seed);
+            table.put(k, entry, mode, loaded.row, mode, steps);
+        }
     }
 }

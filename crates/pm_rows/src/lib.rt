@@ -21,4 +21,5 @@ pub mod wanted;
 pub use laws::{rows_know_modes, rows_stay_sound, shifts_leave_others};
 pub use row::{Change, Entry, Pair, Row, RowSeed};
 pub use rows::{Rows, are_placed};
+pub use shift::is_start;
 pub use wanted::Wanted;

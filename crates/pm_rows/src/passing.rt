@@ -1,12 +1,12 @@
 //! A pass over all rows, which keeps the counts.
 
-ghost use Rattle.std.specs.Prelude.{◌≡◌, ℕ, ◌+◌, ◌<◌, length, map, slice_set, sum_by};
+ghost use Rattle.std.specs.Prelude.{◌≡◌, ℕ, ◌+◌, ◌<◌, ◌^◌, Some, length, map, slice_get, slice_set, sum_by};
 ghost use Rattle.pm_rows.specs.declared.passes.Pass.TheVariants.{One};
 ghost use Rattle.pm_rows.specs.declared.row.Change.TheVariants.{Arm, Limit, Release, Request, Set};
 ghost use Rattle.pm_rows.specs.Modes.{mode_in};
 ghost use Rattle.pm_rows.specs.Shift.{is_taken, shifted_row};
 ghost use Rattle.pm_rows.specs.Counted.{AreTallied, counted};
-ghost use Rattle.pm_rows.specs.Passes.{cost_of, known_after, passed, row_after};
+ghost use Rattle.pm_rows.specs.Passes.{cost_of, is_left, known_after, passed, row_after};
 ghost use Rattle.pm_rows.specs.Passing.{MayPutAt, PutsAt};
 ghost use Rattle.pm_rows.specs.Spans.{IsCover};
 
@@ -73,18 +73,54 @@ fn row_after(table: &Table, entry: Entry, pass: Pass) -> Row
     }
 }
 
-/// Puts the row at a place as a pass asks, and counts it in the mode that its master has afterwards.
+/// Whether a pass leaves a row as it is, and it is counted as before.
+fn is_left(pass: Pass, entry: &Entry) -> bool
+    ensures { result ≡ is_left pass entry.now.row }
+{
+    match pass {
+        Pass::One(_, _, _) => false,
+        Pass::Settle(_) => !entry.row.hold,
+        Pass::Shift(_, from, to) => {
+            entry.is_idle() && (!is_start(from, to) || entry.row.preset.0 == 0)
+        }
+        Pass::DropSlave(_) | Pass::Clear => entry.is_idle(),
+    }
+}
+
+/// Puts a row that was read as a pass asks, and counts it in the mode that its master has afterwards.
 #[inline(never)]
+fn put_read<L: Ledger>(
+    table: &mut Table,
+    k: usize,
+    entry: Entry,
+    known: &[Mode],
+    pass: Pass,
+    steps: &mut Steps<L>,
+)
+    requires here { slice_get table.old.entries k ≡ Some entry }
+    requires placed { entry.seed.slave < length table.old.tally.users }
+    requires few { length table.old.entries < 2 ^ 31 }
+    requires ready { MayPutAt known.now k table.old }
+    ensures { (start : ℕ) → steps.old ≡ start + 1 → PutsAt pass known.now k table.old start table.new steps.new }
+{
+    let row = row_after(table, entry, pass);
+    let from = mode_in(known, entry.seed.master);
+    let to = mode_after(known, pass, entry.seed.master);
+    table.put(k, entry, from, row, to, steps);
+}
+
+/// Puts the row at a place as a pass asks, and counts it in the mode that its master has afterwards. A row that
+/// the pass leaves as it is costs its reading alone.
+#[inline(always)]
 fn put_at<L: Ledger>(table: &mut Table, k: usize, known: &[Mode], pass: Pass, steps: &mut Steps<L>)
     requires within { k < length table.old.entries }
     requires ready { MayPutAt known.now k table.old }
     ensures { PutsAt pass known.now k table.old steps.old table.new steps.new }
 {
     let entry = table.entry(k, steps);
-    let row = row_after(table, entry, pass);
-    let from = mode_in(known, entry.seed.master);
-    let to = mode_after(known, pass, entry.seed.master);
-    table.put(k, entry, from, row, to, steps);
+    if !is_left(pass, &entry) {
+        put_read(table, k, entry, known, pass, steps);
+    }
 }
 
 /// Sets the requirement of the row at a place, by its master's mode, and counts it.

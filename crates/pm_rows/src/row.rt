@@ -2,7 +2,8 @@
 
 ghost use Rattle.std.specs.Prelude.{◌≡◌, false};
 ghost use Rattle.pm_rows.specs.declared.row.Change.TheVariants.{Request, Release, Limit};
-ghost use Rattle.pm_rows.specs.Passes.{rests};
+ghost use Rattle.pm_rows.specs.Filling.{is_blank};
+ghost use Rattle.pm_rows.specs.Passes.{is_idle, rests};
 ghost use Rattle.pm_rows.specs.Rows as spec;
 ghost use Rattle.pm_rows.specs.Rows.{applied, pair_of, set_in, is_at, is_of_other, is_rival, is_user};
 
@@ -189,6 +190,13 @@ impl RowSeed {
             preset: self.preset,
         }
     }
+
+    /// Whether the row of the pair is at first as one that isn't used yet, and has no preset.
+    pub(crate) fn is_blank(&self) -> bool
+        ensures { result ≡ is_blank self.now }
+    {
+        self.start.is_none() && self.preset.0 == 0 && !self.hold
+    }
 }
 
 impl Entry {
@@ -239,6 +247,18 @@ impl Entry {
     {
         !(differs && self.row.armed.is_some())
             && (!self.row.used || self.row.next.0 == self.row.now.0)
+    }
+
+    /// Whether the row isn't used, held or armed, and has nothing but its preset.
+    pub fn is_idle(&self) -> bool
+        ensures { result ≡ is_idle self.now.row }
+    {
+        !self.row.used
+            && self.row.now.0 == 0
+            && self.row.next.0 == 0
+            && !self.row.hold
+            && self.row.armed.is_none()
+            && self.row.latency.is_none()
     }
 
     /// Whether a master uses the slave by this row.

@@ -1,6 +1,7 @@
-use Rattle.std.proofs.Common.{ap, arith}
+use Rattle.std.proofs.Common.{◌∙◌, ap, arith, sym}
 use Rattle.pm_rows.specs.declared.row.Entry.{Entry}
-use Rattle.pm_rows.proofs.Filled.{fill_ends, fill_limit, fill_next, fill_ready, fill_starts, fill_within}
+use Rattle.pm_rows.proofs.Filled.{fill_ends, fill_left, fill_limit, fill_next, fill_ready, fill_starts, fill_within}
+use Rattle.pm_rows.proofs.filling.fill.Goals.{then-not-is_blank, else-not-is_blank}
 use Rattle.pm_rows.proofs.filling.fill.Goals as goal
 
 pub loop-k-init : goal.loop-k-init
@@ -20,10 +21,16 @@ put-requires-clause-limit g c =
 
 pub loop-k-preserved : goal.loop-k-preserved
 loop-k-preserved g c =
-    fill_next c.args.known.now c.args.seeds.now c.args.table.now c.loop-k.table c.loop-k.k c.loop-k.invariant c.seed_at-seed.result c.entry-entry.result c.mode_in-mode.result
-    c.loaded-loaded.result.row c.put.new.self c.seed_at-seed.ensures c.entry-entry.ensures.entry c.mode_in-mode.ensures
-    (ap (λ (e : Entry). e.row) c.loaded-loaded.ensures) c.entry-entry.ensures.placed
-    c.put.ensures.entries c.put.ensures.tally c.put.ensures.slaves c.put.ensures.room
+    elim c.if-not-is_blank.branch [
+      | then-not-is_blank w ↦
+          rw (w.table-is) (fill_next c.args.known.now c.args.seeds.now c.args.table.now c.loop-k.table c.loop-k.k c.loop-k.invariant c.seed_at-seed.result w.entry-entry.result w.mode_in-mode.result
+          w.loaded-loaded.result.row w.put.new.self c.seed_at-seed.ensures w.entry-entry.ensures.entry w.mode_in-mode.ensures
+          (ap (λ (e : Entry). e.row) w.loaded-loaded.ensures) w.entry-entry.ensures.placed
+          w.put.ensures.entries w.put.ensures.tally w.put.ensures.slaves w.put.ensures.room)
+      | else-not-is_blank w ↦
+          rw (w.table-is) (fill_left c.args.known.now c.args.seeds.now c.args.table.now c.loop-k.table c.loop-k.k c.loop-k.invariant c.seed_at-seed.result
+          c.seed_at-seed.ensures (sym c.is_blank.ensures ∙ w.if-not-is_blank.false))
+    ]
 
 pub returns : goal.returns
 returns g c =

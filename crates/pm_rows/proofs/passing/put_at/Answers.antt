@@ -1,13 +1,12 @@
-use Rattle.pm_rows.specs.declared.row.Entry.{Entry}
-use Rattle.pm_rows.specs.Modes.{mode_in}
-use Rattle.pm_rows.specs.Passes.{known_after, row_after}
-use Rattle.pm_rows.proofs.Paid.{was_put}
+use Rattle.std.proofs.Common.{◌∙◌, sym}
+use Rattle.pm_rows.proofs.Left.{left_put}
 use Rattle.pm_rows.proofs.passing.put_at.Goals as goal
 
-pub returns : goal.returns
-returns g c = λ x at.
-    was_put c.args.k c.mode_in-from.result c.mode_after-to.result c.row_after-row.result
-    (λ (e : Entry). mode_in e.seed.master c.args.known.now) (λ (e : Entry). mode_in e.seed.master (known_after c.args.pass c.args.known.now))
-    (row_after c.args.pass c.args.table.now.entries) x c.entry-entry.result c.args.table.now c.put.new.self c.args.steps.now c.entry-entry.new.steps c.put.new.steps
-    at c.entry-entry.ensures.entry c.mode_in-from.ensures c.mode_after-to.ensures c.row_after-row.ensures c.entry-entry.ensures.placed
-    c.put.ensures.entries c.put.ensures.tally c.put.ensures.slaves c.put.ensures.room c.entry-entry.ensures.steps c.put.ensures.steps
+pub returns-then-not-is_left : goal.returns-then-not-is_left
+returns-then-not-is_left g c = c.put_read.ensures c.args.steps.now c.entry-entry.ensures.steps
+
+pub returns-else-not-is_left : goal.returns-else-not-is_left
+returns-else-not-is_left g c =
+    left_put c.args.pass c.args.known.now c.args.k c.args.table.now c.args.steps.now c.entry-entry.new.steps c.entry-entry.result
+    c.entry-entry.ensures.entry (sym c.is_left.ensures ∙ c.if-not-is_left.false) c.entry-entry.ensures.placed c.entry-entry.ensures.few
+    c.requires.ready c.entry-entry.ensures.steps
