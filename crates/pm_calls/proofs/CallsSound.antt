@@ -77,11 +77,11 @@ pub record IsHeard (book : State) (m : ℕ) : Type 0 where
   pub there : m < length book.fixed.object.masters
   pub awake : IsTrue (is_awake (mode_of_master book.fixed book.now.core m))
 
--- a change fits a row of the master at place m, and what it arms the row with
+-- a change fits a row of the master at place m, and so does the processor that it arms the row with
 abbrev FitsRow : ℕ → ℕ → Change → Entry → State → Type 0
 FitsRow m s by e book = IsFit m s by e book.now.core.rows × MayArm book.fixed e.seed.master by
 
--- a change of the caller's row keeps the book sound where it fits the row that is there
+-- a change of the caller's row keeps the book sound if it fits the row that is there
 row_keeps : RowLaws → (m s : ℕ) (by : Change) (book : State) (entry : Option Entry) → IsSound book → entry_at m s book.now.core.rows ≡ entry → ((e : Entry) → entry ≡ Some e → FitsRow m s by e book) → IsSound (after_stage (changes_of by entry) book)
 row_keeps laws m s by book None sound found fits = empty_keeps laws book sound
 row_keeps laws m s by book (Some entry) sound found fits =
@@ -93,7 +93,7 @@ view_of m s book = record { slave = Some s; entry = entry_at m s book.now.core.r
 abbrev no_view : RowView
 no_view = record { slave = None; entry = None; rival = None }
 
--- a call on a row keeps the book sound where its change fits the row of each slave once its checks hold
+-- a call on a row keeps the book sound if its change fits the row of each slave, given that its checks hold
 row_call_keeps : RowLaws → (m : ℕ) (by : Change) (call : RowView → Called) (book : State) (slave : Option ℕ) → IsSound book → ((view : RowView) → (call view).stages ≡ row_changes by view ∷ []) → ((s : ℕ) → AllHold (call (view_of m s book)).checks → (e : Entry) → entry_at m s book.now.core.rows ≡ Some e → FitsRow m s by e book) → IsSound (after_stages (stages_of (call (row_view_at m slave book))) book)
 row_call_keeps laws m by call book None sound does fits =
     call_keeps (call no_view) book sound (λ all.
@@ -162,7 +162,7 @@ enforced_free (Unreadable fault) = tt
 enforced_free Unusable = tt
 enforced_free (Usable k) = (tt, tt)
 
--- each call: one that changes nothing has the last line
+-- each call keeps the book sound; the last line is for the calls that change nothing
 pub called_keeps : KeepLaws → (m : ℕ) (call : Call) (book : State) → IsSound book → IsHeard book m → IsSound (after_stages (stages_of (called m call book)) book)
 called_keeps laws m (SelfSuspend node address) book sound heard =
     let view : ProcView = proc_view m node book in

@@ -1,11 +1,15 @@
 pub mod ArmingLaw
+pub mod BetweenLaw
 pub mod CallsOnce
 pub mod CallsSound
 pub mod ResetSound
 pub mod ShapeLaw
 pub mod ShutdownCases
 pub mod ShutdownSound
+pub mod StagesWritten
+pub mod StaysLaw
 pub mod Verdicts
 pub mod WakeLemmas
 pub mod WakeSound
+pub mod WakeWritten
 pub mod PermissionsLaw

@@ -1,4 +1,4 @@
--- The fifth check of a call is what the object in force permits the caller.
+-- The fifth check of a call is the permission by the object in force.
 use Rattle.std.proofs.Common.{◌≡◌, ◌∙◌, ℕ, ◌==◌, ◌&&◌, ◌||◌, Bool, true, false, is_some, cond, Option, Some, None, refl, sym, ap}
 use Rattle.std.specs.Prelude.{option_map}
 use Rattle.pm_base.specs.declared.names.LineId.{LineId}

@@ -28,7 +28,7 @@ use Rattle.pm_state.proofs.StageLaw.{IsWithin, within, put_keeps, followed_sound
 abbrev MayReset : Fixed → ℕ → ℕ → Type 0
 MayReset fixed m l = may_be_reset fixed m l ≡ true
 
--- one that the object in force permits
+-- a line that the object in force permits
 in_force_permits : (book : State) (m l : ℕ) → IsSound book → permits_reset (grants_in book) m l ≡ true → MayReset book.fixed m l
 in_force_permits book m l sound may =
     permitted_by_some (λ (grants : Grants). permits_reset grants m l) book.fixed sound.force.place (in_force book) sound.force.there may
@@ -57,7 +57,7 @@ put_line_keeps fixed now m l asserted may of = record {
   notes = of.notes;
 }
 
--- a processor that is stopped keeps it so too
+-- a processor that a line stops keeps the book within its bounds
 stopped_keeps : (fixed : Fixed) (target : Option OwnedProc) (now : Now) → IsWithin fixed now → IsWithin fixed (applies fixed (stopped target) now)
 stopped_keeps fixed None now of = of
 stopped_keeps fixed (Some target) now of =

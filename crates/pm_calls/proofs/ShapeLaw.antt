@@ -1,4 +1,4 @@
--- A call is that of its shape.
+-- A call equals the call of its shape.
 use Rattle.std.proofs.Common.{◌≡◌, ℕ, refl}
 use Rattle.pm_ipi.specs.declared.calls.Call.{Call}
 use Rattle.pm_ipi.specs.declared.calls.Call.TheVariants.{GetApiVersion}

@@ -14,7 +14,7 @@ by_tests P fixed m nothing own all true b c = nothing
 by_tests P fixed m nothing own all false true c = own c
 by_tests P fixed m nothing own all false false c = all c
 
--- what holds of nothing, of what a shutdown of the caller does and of what one of all does holds of each shutdown
+-- a property of no stages, of a shutdown of the caller and of one of everything holds of each shutdown
 pub each_shutdown : (P : List (List Prim) → Type 0) (fixed : Fixed) (m : ℕ) → P [] → ((restarts : Bool) → P (own_stages fixed m restarts)) → ((restarts : Bool) → P (all_stages fixed restarts)) → (shutdown_type subtype : ℕ) → P (shutdown_stages fixed m shutdown_type subtype)
 each_shutdown P fixed m nothing own all shutdown_type subtype =
     by_tests P fixed m nothing own all (shutdown_type == 2) (subtype == 0) (shutdown_type == 1)
@@ -33,7 +33,7 @@ all_restart fixed m shutdown_type subtype is =
     let one : (if subtype == 0 then own else all) ≡ all = ap (λ b. if b then own else all) (isnt (subtype == 0) parts.1) in
     subst P (sym (eqb-true shutdown_type 1 parts.0)) one
 
--- a type or a subtype that isn't known, a scope, and a shutdown that isn't permitted
+-- an unknown type or subtype, a scope, and a shutdown that isn't permitted
 pub isnt_known : (shutdown_type subtype : ℕ) → (2 < shutdown_type) ⊎ (2 < subtype) → (nat_le shutdown_type 2 && nat_le subtype 2) ≡ false
 isnt_known shutdown_type subtype is = grind (arith, nat_tests)
 

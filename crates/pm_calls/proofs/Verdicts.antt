@@ -44,14 +44,14 @@ stages_either call = elim (fits_or_not (first_failing call.checks) call.stages) 
   | inr none ↦ inr none
 ]
 
--- a call with a check that fails has none
+-- a call with a check that fails has no stages
 pub none_done : (call : Called) → (AllHold call.checks → ⊥) → stages_of call ≡ []
 none_done call fails = elim (fits_or_not (first_failing call.checks) call.stages) [
   | inl fits ↦ absurd (fails (all_hold call.checks fits))
   | inr none ↦ none
 ]
 
--- and so has a call that does nothing
+-- a call without stages has none after its checks either
 nothing_by : (cause : Cause) (stages : List (List Prim)) → stages ≡ [] → stages_by cause stages ≡ []
 nothing_by (Stands Fits) stages none = none
 nothing_by _ stages none = refl
@@ -75,7 +75,7 @@ says_by : (P : Option Say → Type 0) (cause : Cause) (effects : Effects) → P 
 says_by P (Stands Fits) effects none said = said
 says_by P _ effects none said = none
 
--- what holds of nothing and of what a call means to have told holds of what it has told
+-- a property of nothing, and of what a call would have told, holds of what it has told
 pub says_either : (P : Option Say → Type 0) (call : Called) → P None → P call.effects.says → P (says_of (verdict_of call))
 says_either P call none said = says_by P (first_failing call.checks) call.effects none said
 

@@ -1,4 +1,4 @@
--- Rows that wake their processors one after another do what they do by the book before the first of them.
+-- Rows that wake their processors one after another do the same as all of them by the book before the first.
 use Rattle.std.proofs.Common.{◌≡◌, ◌≢◌, ℕ, suc, zero, ◌+◌, ◌<◌, ◌==◌, Bool, true, false, if◌then◌else◌, List, [], ◌∷◌, length, drop, get_or, Option, Some, None, refl, sym, ◌∙◌, ap, subst, inl, inr}
 use Rattle.std.specs.Prelude.{slice_get, slice_set, flat_map, unwrap_or, ◌⊎◌}
 use Rattle.std.proofs.lemmas.Bool.{cases_eq}
@@ -19,10 +19,10 @@ use Rattle.pm_state.specs.Prims.{Prim, applies, changed, proc_put}
 use Rattle.pm_state.specs.State.{Fixed, Now, State}
 use Rattle.pm_state.proofs.FollowLemmas.{applies_append}
 
-abbrev book_of : Fixed → Now → State
+abbrev pub book_of : Fixed → Now → State
 book_of fixed now = record { fixed = fixed; now = now }
 
--- each of these rows wakes its processor, by the book as it is then
+-- each of these rows wakes its processor, by the book as it is when its turn comes
 abbrev pub wake_each : Fixed → ℕ → List Entry → Now → Now
 wake_each fixed s [] now = now
 wake_each fixed s (e ∷ es) now = wake_each fixed s es (applies fixed (woken_from s (book_of fixed now) e) now)
@@ -30,16 +30,16 @@ wake_each fixed s (e ∷ es) now = wake_each fixed s es (applies fixed (woken_fr
 -- ---- processors as they were, or woken
 
 -- an interrupt wakes a processor in this mode
-abbrev rests : Mode → Bool
+abbrev pub rests : Mode → Bool
 rests Off = false
 rests Active = false
 rests Asleep = true
 rests Suspending = true
 
-abbrev IsWoken : Processor → Processor → Type 0
+abbrev pub IsWoken : Processor → Processor → Type 0
 IsWoken a b = (b ≡ a) ⊎ ((rests a.mode ≡ true) × (b ≡ record { mode = Active; address = a.address }))
 
-abbrev Woke : Now → Now → Type 0
+abbrev pub Woke : Now → Now → Type 0
 Woke a x = (q : ℕ) → IsWoken (proc_at q a.core.procs) (proc_at q x.core.procs)
 
 set_same : (procs : List Processor) (p : ℕ) (proc : Processor) → proc_at p procs ≡ proc → slice_set procs p proc ≡ procs
@@ -52,7 +52,7 @@ set_here [] p proc rest = cc
 set_here (x ∷ procs) zero proc rest = refl
 set_here (x ∷ procs) (suc p) proc rest = set_here procs p proc rest
 
-set_other : (procs : List Processor) (p q : ℕ) (proc : Processor) → q ≢ p → proc_at q (slice_set procs p proc) ≡ proc_at q procs
+pub set_other : (procs : List Processor) (p q : ℕ) (proc : Processor) → q ≢ p → proc_at q (slice_set procs p proc) ≡ proc_at q procs
 set_other procs p q proc other =
     unwrap_or-slice_get (slice_set procs p proc) q off ∙ (get_or-set_other procs p q proc off other ∙ sym (unwrap_or-slice_get procs q off))
 
@@ -106,7 +106,7 @@ kept_in fixed m p address Suspending a x at woke = put_woke a x p address Suspen
 
 -- ---- one row
 
-record Acts (fixed : Fixed) (a x : Now) (first second : List Prim) : Type 0 where
+pub record Acts (fixed : Fixed) (a x : Now) (first second : List Prim) : Type 0 where
   pub same : applies fixed first x ≡ applies fixed second x
   pub woke : Woke a (applies fixed second x)
 
@@ -123,7 +123,7 @@ by_armed : (fixed : Fixed) (m : ℕ) (armed : Option NodeId) (a x : Now) → Wok
 by_armed fixed m None a x woke = record { same = refl; woke = woke }
 by_armed fixed m (Some node) a x woke = at_kind fixed m (kind_of fixed.topology node) a x woke
 
-by_row : (fixed : Fixed) (there : Bool) (m : ℕ) (armed : Option NodeId) (a x : Now) → Woke a x → Acts fixed a x (if there then woken_by m armed (book_of fixed a) else []) (if there then woken_by m armed (book_of fixed x) else [])
+pub by_row : (fixed : Fixed) (there : Bool) (m : ℕ) (armed : Option NodeId) (a x : Now) → Woke a x → Acts fixed a x (if there then woken_by m armed (book_of fixed a) else []) (if there then woken_by m armed (book_of fixed x) else [])
 by_row fixed true m armed a x woke = by_armed fixed m armed a x woke
 by_row fixed false m armed a x woke = record { same = refl; woke = woke }
 

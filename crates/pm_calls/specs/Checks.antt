@@ -2,9 +2,9 @@
 use Rattle.std.specs.Prelude.{◌≡◌, ℕ, Bool, true, not, if◌then◌else◌, List, [], ◌∷◌, Option, Some, None}
 use Rattle.pm_base.specs.declared.names.NodeId.{NodeId}
 
--- what the state of the book says of a call
+-- what the last check finds in the state of the book
 pub data Standing : Type 0 where
-  -- nothing stands against it
+  -- nothing speaks against the call
   Fits : Standing
   -- the caller doesn't use the slave
   NotUsed : Standing
@@ -15,15 +15,16 @@ pub data Standing : Type 0 where
   -- a processor, or the master that is asked, isn't in a mode that the call needs
   WrongMode : Standing
 
--- the seven checks of a call, in their order: whether each holds, and what the fourth and the last one find
+-- the seven checks of a call in their order: whether each holds; for the fourth the words that are told if it fails,
+-- for the last what it finds
 pub record Checks : Type 0 where
   -- 1: there is such a call
   pub known : Bool
-  -- 2: its acknowledge kind is known, where it has one
+  -- 2: its acknowledge kind is known, if it has one
   pub acknowledge : Bool
   -- 3: the chip has each node or reset line that it names, and of a kind that the call takes
   pub node : Bool
-  -- 4: each of its other arguments is in range; the words that are told if one isn't
+  -- 4: none if each other argument is in range, else the words of the refusal
   pub arguments : Option (List ℕ)
   -- 5: the object permits it to the caller
   pub permitted : Bool
@@ -32,7 +33,7 @@ pub record Checks : Type 0 where
   -- 7: the state of the book allows it
   pub standing : Standing
 
--- a call that nothing is checked of
+-- a call without checks
 abbrev pub unchecked : Checks
 unchecked = record {
   known = true;
@@ -44,11 +45,12 @@ unchecked = record {
   standing = Fits;
 }
 
--- arguments that are in range; if not, nothing is told of them
+-- arguments that are in range, or a refusal without words
 abbrev pub in_range : Bool → Option (List ℕ)
 in_range holds = if holds then None else Some (0 ∷ 0 ∷ 0 ∷ [])
 
--- the first check that fails; if the first six hold it is the last one, with what it finds, and that fails unless the call fits
+-- the first check that fails. If the first six hold, it is the last one with its finding, which is no failure if the
+-- call fits
 pub data Cause : Type 0 where
   Known : Cause
   Acknowledge : Cause
@@ -58,7 +60,7 @@ pub data Cause : Type 0 where
   Capable : Cause
   Stands : Standing → Cause
 
--- the fourth check, before the later ones
+-- the fourth check, or else a later cause
 abbrev pub range_first : Option (List ℕ) → Cause → Cause
 range_first None later = later
 range_first (Some words) later = Arguments words

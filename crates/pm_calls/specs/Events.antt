@@ -1,4 +1,4 @@
--- What events other than messages do to the processors.
+-- The effects of boots, waits and interrupts on the processors.
 use Rattle.std.specs.Prelude.{ℕ, ◌==◌, if◌then◌else◌, List, [], ◌∷◌, flat_map, Option, Some, None}
 use Rattle.pm_base.specs.declared.names.NodeId.{NodeId}
 use Rattle.pm_base.specs.declared.names.Mode.{Mode}
@@ -27,7 +27,7 @@ waits m p address Off = []
 waits m p address Active = []
 waits m p address Asleep = []
 
--- only a processor that a configured master has is started, and only such a one sleeps
+-- a boot starts only a processor that a configured master has
 abbrev pub boot_by : Option ℕ → ℕ → ℕ → Processor → List (List Prim)
 boot_by None p address proc = []
 boot_by (Some m) p address proc = booted m p address proc.mode
@@ -36,7 +36,7 @@ abbrev pub wait_by : Option ℕ → ℕ → Processor → List (List Prim)
 wait_by None p proc = []
 wait_by (Some m) p proc = waits m p proc.address proc.mode
 
--- a boot by the kind of the node: only a processor boots and waits
+-- a boot starts only a node that is a processor
 abbrev pub boot_at : Kind → ℕ → State → List (List Prim)
 boot_at (Proc p) address book =
     boot_by (owner_at book.fixed.object book.fixed.topology p) p address (proc_at p book.now.core.procs)
@@ -46,8 +46,7 @@ abbrev pub wait_at : Kind → State → List (List Prim)
 wait_at (Proc p) book = wait_by (owner_at book.fixed.object book.fixed.topology p) p (proc_at p book.now.core.procs)
 wait_at _ book = []
 
--- the stages of a boot and of a wait: none where the node is no processor, where no configured master has it, and where its
--- mode is another
+-- the stages of a boot: none if the node is no processor, if no configured master has it, or if it isn't off
 abbrev pub boot : NodeId → ℕ → State → List (List Prim)
 boot node address book = boot_at (kind_of book.fixed.topology node) address book
 
@@ -64,7 +63,7 @@ woken_in m p address Active = []
 abbrev pub woken : ℕ → ℕ → Processor → List Prim
 woken m p proc = woken_in m p proc.address proc.mode
 
--- the stages of an interrupt at a processor itself, by its kind and the configured master that has it
+-- the stages of an interrupt of a processor: none if no configured master has it
 abbrev pub interrupt_by : Option ℕ → ℕ → Processor → List (List Prim)
 interrupt_by None p proc = []
 interrupt_by (Some m) p proc = woken m p proc ∷ []
@@ -77,21 +76,22 @@ interrupt_at _ book = []
 abbrev pub interrupt : NodeId → State → List (List Prim)
 interrupt node book = interrupt_at (kind_of book.fixed.topology node) book
 
--- what wakes of a master: its processor that is of this kind
+-- the change if a master's processor of this kind wakes
 abbrev pub woken_at : ℕ → Kind → State → List Prim
 woken_at m (Proc p) book = woken m p (proc_at p book.now.core.procs)
 woken_at m _ book = []
 
--- what wakes of a master whose row is armed with this processor
+-- the change if a row of the master that is armed with this processor wakes it
 abbrev pub woken_by : ℕ → Option NodeId → State → List Prim
 woken_by m None book = []
 woken_by m (Some node) book = woken_at m (kind_of book.fixed.topology node) book
 
--- what a row does where the slave at place s raises its interrupt: a row on that slave wakes the processor that it is armed with
+-- the change by a row if the slave at place s raises its interrupt: a row on that slave wakes the processor that it
+-- is armed with
 abbrev pub woken_from : ℕ → State → Entry → List Prim
 woken_from s book entry = if entry.seed.slave == s then woken_by entry.seed.master entry.row.armed book else []
 
--- the stages of the interrupt of a slave: each row that is armed there wakes its processor
+-- the stages of a slave's interrupt: one, in which each armed row on the slave wakes its processor
 abbrev pub raised_at : Kind → State → List (List Prim)
 raised_at (Slave s) book = flat_map (woken_from s book) book.now.core.rows.entries ∷ []
 raised_at _ book = []

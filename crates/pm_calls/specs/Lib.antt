@@ -1,3 +1,4 @@
+pub mod Between
 pub mod Characteristics
 pub mod Checks
 pub mod Events

@@ -1,4 +1,4 @@
--- What has to be permitted to the caller for each call, by the records of the object in force.
+-- The permission that each call needs, by the records of the object in force.
 use Rattle.std.specs.Prelude.{◌≡◌, ℕ, ◌==◌, ◌&&◌, ◌||◌, Bool, true, false, Option, Some, None}
 use Rattle.pm_base.specs.declared.names.NodeId.{NodeId}
 use Rattle.pm_ipi.specs.declared.calls.Call.{Call}
@@ -28,14 +28,15 @@ may_be_told master node (Slave s) book = uses master node book
 may_be_told master node (Power w) book = true
 may_be_told master node _ book = false
 
--- the place of the configured master that has the processor, if the kind is one
+-- the place of the processor's owner; none if the kind is no processor, or no configured master has it
 abbrev pub owner_of : Fixed → Kind → Option ℕ
 owner_of fixed (Proc p) = owner_at fixed.object fixed.topology p
 owner_of fixed _ = None
 
--- the permission that a call of a master needs, by its number and its place m: calls on slaves need that it may use them, calls
--- on its processors that they are its own, a request to another master that it may suspend or wake that one, if that isn't
--- itself, and the others what they are named for; calls that only read, and the end of initialization, need none
+-- the permission that a call needs of the master at place m. A call on a slave needs that the caller may use it, and
+-- a call on a processor that it is the caller's own. A request to another master needs that the caller may suspend or
+-- wake that one; its own it may wake. The other calls need their own permissions. Calls that only read, and the end
+-- of the initialization, need none
 abbrev pub IsPermission : ℕ → NodeId → Call → State → Bool → Type 0
 IsPermission m master (call.SetConfiguration address) book permitted =
     permitted ≡ may_configure (in_force book) book.fixed.topology master
@@ -63,7 +64,7 @@ IsPermission m master (call.ResetAssert line action) book permitted =
     permitted ≡ may_reset (in_force book) book.fixed.topology master line
 IsPermission m master _ book permitted = permitted ≡ true
 
--- of each call of a configured master, in every sound book, the fifth check is whether the object in force permits it
+-- for each call of a configured master, in every sound book, the fifth check is that the object in force permits it
 abbrev pub ArePermissions : Type 0
 ArePermissions = (m : ℕ) (master : NodeId) (call : Call) (book : State)
     → IsSound book → master_place master book ≡ Some m

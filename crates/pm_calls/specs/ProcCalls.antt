@@ -1,4 +1,4 @@
--- What calls on a processor look at, and how they change it.
+-- The checks of calls on a processor, and their changes of it.
 use Rattle.std.specs.Prelude.{ℕ, Bool, is_some, List, [], ◌∷◌, Option, Some, None}
 use Rattle.std.specs.Option.{option_map_or}
 use Rattle.pm_base.specs.declared.names.Mode.{Mode}
@@ -13,7 +13,7 @@ use Rattle.pm_state.specs.Prims.{Prim, Put_proc}
 abbrev pub on_own : ProcView → Checks
 on_own view = record unchecked { node = is_some view.place; permitted = is_some view.own }
 
--- what the mode of its own processor says; of another one the permission fails before
+-- the last check, by the mode of the caller's own processor; for another processor the permission check fails first
 abbrev pub by_mode : (Mode → Standing) → Option Proc → Standing
 by_mode says None = Fits
 by_mode says (Some proc) = says proc.mode
@@ -22,7 +22,7 @@ by_mode says (Some proc) = says proc.mode
 abbrev pub is_in : Mode → ProcView → Bool
 is_in mode view = same_mode (option_map_or (λ (proc : Proc). proc.mode) view.own Off) mode
 
--- where it resumes
+-- the resume address of the caller's processor; 0 for another one
 abbrev pub address_in : ProcView → ℕ
 address_in view = option_map_or (λ (proc : Proc). proc.address) view.own 0
 

@@ -1,4 +1,4 @@
--- What calls on a row look at, and how they change it.
+-- The checks of calls on a row, and their changes of it.
 use Rattle.std.specs.Prelude.{Bool, false, if◌then◌else◌, is_some, List, [], ◌∷◌, Option, Some, None}
 use Rattle.std.specs.Option.{option_map_or}
 use Rattle.pm_base.specs.declared.caps.Caps.{Caps}
@@ -24,7 +24,7 @@ used_by_caller view = if is_in_use view then Fits else NotUsed
 abbrev pub on_used : RowView → Checks
 on_used view = record unchecked { node = is_some view.slave; permitted = is_some view.entry; standing = used_by_caller view }
 
--- this change of the row, where it is there
+-- this change of the row, if there is a row
 abbrev pub changes_of : Change → Option Entry → List Prim
 changes_of by None = []
 changes_of by (Some entry) = At_row entry.seed.master entry.seed.slave by ∷ []

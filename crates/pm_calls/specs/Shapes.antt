@@ -1,5 +1,5 @@
 -- The shape of a call: what it reads of the book and what it changes. Calls of one shape differ in what they check and tell.
-use Rattle.std.specs.Prelude.{ℕ, Bool, true, false, Option, Some, None}
+use Rattle.std.specs.Prelude.{ℕ, Bool, true, false, Option}
 use Rattle.pm_base.specs.declared.names.LineId.{LineId}
 use Rattle.pm_base.specs.declared.names.Mode.{Mode}
 use Rattle.pm_base.specs.declared.names.NodeId.{NodeId}
@@ -41,22 +41,22 @@ pub data Shape : Type 0 where
   Own_arming : (target source : NodeId) (enable : ℕ) → Shape
   -- the caller drops its holds
   Own_holds : Shape
-  -- a processor of the caller starts to suspend, or goes on
+  -- a processor of the caller starts to suspend, or its suspend is aborted
   Own_suspend : (node : NodeId) (address : ℕ) → Shape
   Own_abort : (node : NodeId) (reason : ℕ) → Shape
-  -- the caller is told of a node
+  -- a notifier of the caller is set or removed
   Own_notifier : (node : NodeId) (event enable : ℕ) → Shape
   -- another master is woken, or asked to suspend
   Other_wakeup : (node : NodeId) (address : Option ℕ) (ack : ℕ) → Shape
   Other_suspend : (node : NodeId) (ack latency state : ℕ) → Shape
-  -- processors go off, and what follows from it: by force, by a shutdown, by a reset line
+  -- processors go off, with all that follows: by force, by a shutdown, by a reset line
   All_forced : (node : NodeId) (ack : ℕ) → Shape
   All_shut : (shutdown_type subtype : ℕ) → Shape
   All_reset : (line : LineId) (action : ℕ) → Shape
   -- another object is put in force
   All_configured : (address : ℕ) → Shape
 
--- the call with its checks and words alone
+-- the call with its checks and words, without changes and other effects
 abbrev pub telling : Called → Called
 telling call = effecting call.checks (told call.effects.words)
 
@@ -82,17 +82,25 @@ shaped m (All_shut shutdown_type subtype) book = system_shutdown (grants_in book
 shaped m (All_reset line action) book = reset_assert line action (line_view m line book)
 shaped m (All_configured address) book = set_configuration (found_at address book.fixed) (permits_configure (grants_in book) m)
 
--- a call of this shape changes no value: the caller is told of a node, another master is asked to suspend, or a
--- processor of the caller that is active starts to suspend, or goes on in place of suspending
-abbrev pub keeps_values : Shape → Bool
-keeps_values (Own_notifier node event enable) = true
-keeps_values (Other_suspend node ack latency state) = true
-keeps_values (Own_suspend node address) = true
-keeps_values (Own_abort node reason) = true
-keeps_values _ = false
+-- ---- which calls a function of the program serves
 
--- the node of the slave on which a call of this shape changes the caller's row; then it changes nothing else of the book
-abbrev pub row_node : Shape → Option NodeId
-row_node (Own_row node by call) = Some node
-row_node (Own_arming target source enable) = Some source
-row_node _ = None
+-- a call of this shape tells what it reads of the book, and does nothing else
+abbrev pub only_reads : Shape → Bool
+only_reads (Node_status node call) = true
+only_reads (Node_figures node call) = true
+only_reads (Line_value line call) = true
+only_reads _ = false
+
+-- by a call of this shape a master or a processor suspends, goes on or wakes
+abbrev pub is_suspending : Shape → Bool
+is_suspending (Own_suspend node address) = true
+is_suspending (Own_abort node reason) = true
+is_suspending (Other_wakeup node address ack) = true
+is_suspending (Other_suspend node ack latency state) = true
+is_suspending _ = false
+
+-- a call of this shape has one stage at most: it is neither a force nor a shutdown
+abbrev pub is_once : Shape → Bool
+is_once (All_forced node ack) = false
+is_once (All_shut shutdown_type subtype) = false
+is_once _ = true

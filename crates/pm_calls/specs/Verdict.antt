@@ -16,21 +16,21 @@ use Rattle.pm_state.specs.Prims.{Prim}
 
 -- ---- what a call is
 
--- a call: its seven checks, and what it does if they hold: the stages of the step, each a list of changes, and its other effects
+-- a call: its seven checks, and, if they hold, the stages of its step (each a list of changes) and its other effects
 pub record Called : Type 0 where
   pub checks : Checks
   pub stages : List (List Prim)
   pub effects : Effects
 
--- a call that tells these words, and does nothing else
+-- the effects of a call that tells these words
 abbrev pub told : List ℕ → Effects
 told words = record { words = words; says = None; pulse = None }
 
--- one that tells nothing, and has the masters told this
+-- the effects of a call that tells nothing, and has the masters told this
 abbrev pub saying : Option Say → Effects
 saying says = record { words = 0 ∷ 0 ∷ 0 ∷ []; says = says; pulse = None }
 
--- one that tells nothing, and pulses this reset line
+-- the effects of a call that tells nothing, and pulses this reset line
 abbrev pub pulsing : Option LineId → Effects
 pulsing line = record { words = 0 ∷ 0 ∷ 0 ∷ []; says = None; pulse = line }
 
@@ -48,7 +48,7 @@ effecting checks effects = record { checks = checks; stages = []; effects = effe
 
 -- ---- the verdict
 
--- the verdict by what the state of the book says
+-- the verdict by the finding of the last check
 abbrev pub verdict_standing : Standing → Effects → Verdict
 verdict_standing Fits effects = Accepted effects
 verdict_standing NotUsed effects = Refused (refusal no_access)
@@ -79,12 +79,12 @@ stages_of call = stages_by (first_failing call.checks) call.stages
 
 -- ---- what follows from it
 
--- what the masters are told by it
+-- what the masters are told because of it
 abbrev pub says_of : Verdict → Option Say
 says_of (Accepted effects) = effects.says
 says_of _ = None
 
--- the reset line that is pulsed by it
+-- the reset line that it pulses
 abbrev pub pulse_of : Verdict → Option LineId
 pulse_of (Accepted effects) = effects.pulse
 pulse_of _ = None
@@ -94,27 +94,27 @@ abbrev pub is_refusal : Verdict → Bool
 is_refusal (Accepted effects) = false
 is_refusal _ = true
 
--- the master that is asked to suspend
+-- the request, if a master is asked to suspend
 abbrev pub asked_by : Option Say → Option Asked
 asked_by (Some (Ask asked)) = Some asked
 asked_by _ = None
 
--- the master that aborts its suspend
+-- the place of the master that aborts its suspend, if one does
 abbrev pub aborted_by : Option Say → Option ℕ
 aborted_by (Some (Abort m)) = Some m
 aborted_by _ = None
 
--- all is restarted
+-- whether all is restarted
 abbrev pub renews_all : Option Say → Bool
 renews_all (Some Renew) = true
 renews_all _ = false
 
--- the response to a call that does this; one that asks a master to suspend is answered when that request ends
+-- the response to an accepted call with these effects; a request to suspend is answered when it ends
 abbrev pub response_to : Option Say → List ℕ → Option Response
 response_to (Some (Ask asked)) words = None
 response_to _ words = Some (success words)
 
--- the response that the sender of a message is given in its step
+-- the response that the sender of a message gets in the message's step
 abbrev pub response_of : Verdict → Option Response
 response_of Dropped = None
 response_of (Refused response) = Some response

@@ -1,4 +1,4 @@
--- What the calls read of the book.
+-- The part of the book that the calls read.
 use Rattle.std.specs.Prelude.{ℕ, Bool, true, false, ◌==◌, ◌||◌, List, slice_get, if◌then◌else◌, is_some, Option, Some, None, option_map}
 use Rattle.std.specs.Option.{option_map_or}
 use Rattle.pm_base.specs.declared.names.NodeId.{NodeId}
@@ -26,7 +26,7 @@ use Rattle.pm_state.specs.Values.{slave_place, point_at}
 use Rattle.pm_state.specs.State.{Fixed, State, grants_in, in_force}
 use Rattle.pm_state.specs.Nodes.{master_node, named_master}
 
--- the node of the other master that uses a slave which can't be shared
+-- the node of another master that uses the slave at place s, if the slave can't be shared
 abbrev pub rival_node : ℕ → ℕ → State → Option NodeId
 rival_node m s book = option_map (master_node book.fixed.object.masters) (rival_of m s book.now.core.rows)
 
@@ -38,23 +38,23 @@ row_view_at m (Some s) book = record {
   rival = rival_node m s book;
 }
 
--- what the master at place m sees of its row on a slave: the slave's place, the row where the pair
--- is permitted, and the other master that uses the slave where it can't be shared
+-- what the master at place m sees of its row on a slave: the slave's place; the row, if the pair is permitted; and
+-- the other master that uses the slave, if it can't be shared
 abbrev pub row_view : ℕ → NodeId → State → RowView
 row_view m node book = row_view_at m (slave_place node book) book
 
--- the processor at place p, where it is that of the master at place m
+-- the processor at place p, if the master at place m has it
 abbrev pub own_proc : ℕ → ℕ → State → Option Processor
 own_proc m p book =
     if owns book.fixed.object book.fixed.topology m p then Some (proc_at p book.now.core.procs) else None
 
--- what a master sees of a node of this kind as of a processor
+-- what a master sees of a node of this kind, as a processor
 abbrev pub proc_view_at : ℕ → Kind → State → ProcView
 proc_view_at m (Proc p) book = record { place = Some p; own = own_proc m p book }
 proc_view_at m _ book = record { place = None; own = None }
 
--- what the master at place m sees of a processor: its place, where the node is one, and its mode and resume address where it
--- is the master's own
+-- what the master at place m sees of a processor: its place, if the node is one, and its mode and resume address, if
+-- it is its own
 abbrev pub proc_view : ℕ → NodeId → State → ProcView
 proc_view m node book = proc_view_at m (kind_of book.fixed.topology node) book
 
@@ -62,7 +62,7 @@ proc_view m node book = proc_view_at m (kind_of book.fixed.topology node) book
 abbrev pub can_wake : ℕ → ℕ → State → Bool
 can_wake m k book = (k == m) || permits_wake (grants_in book) m k
 
--- the processor at place p with the master that has it, where the master at place m may wake it
+-- the processor at place p with its owner, if it has one and the master at place m may wake the owner's processors
 abbrev pub wakeable : ℕ → ℕ → Option ℕ → State → Option Wakeable
 wakeable m p None book = None
 wakeable m p (Some k) book =
@@ -73,8 +73,8 @@ wake_view_at m (Proc p) book =
     record { place = Some p; target = wakeable m p (owner_at book.fixed.object book.fixed.topology p) book }
 wake_view_at m _ book = record { place = None; target = None }
 
--- what the master at place m sees of a processor that it wants to wake: its place, where the node is one, and its master, mode
--- and resume address where it may be woken
+-- what the master at place m sees of a processor that it wants to wake: its place, if the node is one; and its owner,
+-- mode and resume address, if it may
 abbrev pub wake_view : ℕ → NodeId → State → WakeView
 wake_view m node book = wake_view_at m (kind_of book.fixed.topology node) book
 
@@ -90,15 +90,15 @@ is_proc _ = false
 abbrev pub names_master : Fixed → NodeId → Bool
 names_master fixed node = is_proc (kind_of fixed.topology node) || is_master_node node.0
 
--- the timeout of the master at a place, and 0 past the last one
+-- the timeout of the master at a place; 0 without such a master
 abbrev pub master_timeout : List MasterRec → ℕ → ℕ
 master_timeout masters place = option_map_or (λ (master : MasterRec). master.timeout) (slice_get masters place) 0
 
--- the object permits the master at place m to ask the one at place k that it suspends
+-- the object permits the master at place m to ask the one at place k to suspend
 abbrev pub can_suspend : ℕ → ℕ → State → Bool
 can_suspend m k book = permits_suspend (grants_in book) m k
 
--- what is seen of the master at place k
+-- the master at place k as a target of a request to suspend
 abbrev pub suspendable_at : ℕ → State → Suspendable
 suspendable_at k book = record {
   master = k;
@@ -111,14 +111,14 @@ abbrev pub suspendable : ℕ → Option ℕ → State → Option Suspendable
 suspendable m None book = None
 suspendable m (Some k) book = if can_suspend m k book then Some (suspendable_at k book) else None
 
--- what the master at place m sees of a master that it asks to suspend: whether the node can name one, and, where it may ask the
--- one that is named, its place, whether a request is pending on it, its mode and its timeout
+-- what the master at place m sees of another that it asks to suspend: whether the node can name a master; and its
+-- place, whether a request is pending on it, its mode and its timeout, if the object permits the request
 abbrev pub suspend_view : ℕ → NodeId → State → SuspendView
 suspend_view m node book =
     record { named = names_master book.fixed node; target = suspendable m (named_master book.fixed node) book }
 
--- what the master at place m sees of a node of this kind, of which it wants to be told: that it is a slave, and whether the master
--- may use it; that it is a power node; or nothing
+-- what the master at place m sees of a node of this kind for which it sets a notifier: a slave, and whether it may
+-- use it; a power node; or nothing
 abbrev pub watched_at : ℕ → Kind → State → Watched
 watched_at m (Slave s) book = SlaveNode (permits_use (grants_in book) m s)
 watched_at m (Power w) book = PowerNode
@@ -127,7 +127,7 @@ watched_at m _ book = Nothing
 abbrev pub watched : ℕ → NodeId → State → Watched
 watched m node book = watched_at m (kind_of book.fixed.topology node) book
 
--- a node that isn't a slave is told with this operating point alone
+-- the status of a node that isn't a slave: its operating point alone
 abbrev pub plain : ℕ → StatusView
 plain value = record { state = Some value; requested = record { 0 = 0 }; usage = 0 }
 
@@ -140,8 +140,8 @@ status_view_at m (Slave s) value book = record {
 }
 status_view_at m _ value book = plain value
 
--- what the master at place m is told of a node: its operating point, and of a slave the capabilities that the master wants
--- of it now, and who uses it
+-- the status of a node as the master at place m is told it: its operating point, and of a slave the capabilities that
+-- the master requires now, and who uses it
 abbrev pub status_view : ℕ → NodeId → State → StatusView
 status_view m node book =
     status_view_at m (kind_of book.fixed.topology node) (point_at (kind_of book.fixed.topology node) book.fixed book.now.core) book

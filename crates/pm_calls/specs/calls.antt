@@ -1,4 +1,4 @@
--- The calls, one file each; what each is of a book, whether it has one stage, and its shape.
+-- The calls, one file each; what each does over a book, whether it has one stage, and its shape.
 pub mod AbortSuspend
 pub mod ForcePowerdown
 pub mod GetApiVersion
@@ -18,7 +18,7 @@ pub mod SetMaxLatency
 pub mod SetRequirement
 pub mod SetWakeupSource
 pub mod SystemShutdown
-use Rattle.std.specs.Prelude.{ℕ, Bool, true, false, None}
+use Rattle.std.specs.Prelude.{ℕ, false, None}
 use Rattle.pm_ipi.specs.declared.calls.Call.{Call}
 use Rattle.pm_ipi.specs.declared.calls.Call.TheVariants as call
 use Rattle.pm_rows.specs.declared.row.Change.TheVariants.{Request, Release, Set, Limit}
@@ -52,8 +52,8 @@ use Rattle.pm_calls.specs.calls.SetRequirement.{set_requirement}
 use Rattle.pm_calls.specs.calls.SetWakeupSource.{set_wakeup_source}
 use Rattle.pm_calls.specs.calls.SystemShutdown.{system_shutdown}
 
--- a call of the configured master at place m, over what it reads of the book: its seven checks, and what it does if
--- they hold
+-- a call of the configured master at place m, over its views of the book: its seven checks, and what it does if they
+-- hold
 abbrev pub called : ℕ → Call → State → Called
 called m call.GetApiVersion book = get_api_version
 called m (call.SetConfiguration address) book = set_configuration (found_at address book.fixed) (permits_configure (grants_in book) m)
@@ -80,28 +80,6 @@ called m (call.ResetAssert line action) book = reset_assert line action (line_vi
 called m (call.ResetGetStatus line) book = reset_get_status (line_status line book)
 called m call.InitFinalize book = init_finalize m
 called m call.Unknown book = effecting (record unchecked { known = false }) (saying None)
-
--- a call of one stage at most: any but FORCE_POWERDOWN and SYSTEM_SHUTDOWN
-abbrev pub is_once : Call → Bool
-is_once (call.ForcePowerdown node ack) = false
-is_once (call.SystemShutdown shutdown_type subtype) = false
-is_once _ = true
-
--- a call that only reads the book
-abbrev pub only_reads : Call → Bool
-only_reads call.GetApiVersion = true
-only_reads (call.GetNodeStatus node) = true
-only_reads (call.GetOpCharacteristic node characteristic) = true
-only_reads (call.ResetGetStatus line) = true
-only_reads _ = false
-
--- a call of one stage by which a master or a processor suspends, goes on or wakes
-abbrev pub is_suspending : Call → Bool
-is_suspending (call.RequestSuspend node ack latency state) = true
-is_suspending (call.SelfSuspend node address) = true
-is_suspending (call.AbortSuspend node reason) = true
-is_suspending (call.RequestWakeup node address ack) = true
-is_suspending _ = false
 
 -- each call has a shape
 abbrev pub shape_of : Call → Shape

@@ -1,9 +1,10 @@
-//! The calls, one file each; which of these files serves a call; and what can be told from a call before it is served.
+//! The calls, one file each, and which of these files serves a call.
 
-ghost use Rattle.std.specs.Prelude.{◌≡◌, true, false};
+ghost use Rattle.std.specs.Prelude.{◌≡◌, [], length, true, false};
+ghost use Rattle.pm_state.specs.Changes.{written_along};
 ghost use Rattle.pm_calls.specs.Verdict.{stages_of, verdict_of};
-ghost use Rattle.pm_calls.specs.Shapes.{keeps_values, row_node};
-ghost use Rattle.pm_calls.specs.calls.{called, is_once, is_suspending, only_reads, shape_of};
+ghost use Rattle.pm_calls.specs.Shapes.{is_once, is_suspending, only_reads};
+ghost use Rattle.pm_calls.specs.calls.{called, shape_of};
 ghost use Rattle.pm_state.specs.Stages.{after_stages, path_from};
 ghost use Rattle.pm_values.specs.Along.{Completes, trail_from};
 ghost use Rattle.pm_values.specs.Caches.{AreKept};
@@ -29,18 +30,18 @@ mod set_wakeup_source;
 mod system_shutdown;
 
 use crate::verdict::Verdict;
-use pm_base::NodeId;
 use pm_ipi::Call;
 use pm_ipi::status::NO_FEATURE;
-use pm_state::Tables;
+use pm_state::{Changes, Tables};
 use pm_values::{Along, Caches};
 
-/// Judges a call of the master at place `master`: leaves the verdict in `verdict`, and if the call is accepted, makes
-/// its changes of the book. Between two stages of the call the modes are logged in `along`: a call of one stage at most
-/// logs nothing.
+/// Judges a call of the master at place `master`, and leaves the verdict in `verdict`. An accepted call changes the
+/// book, and its changes are written down in `changes`. `along` has the modes before the call. Those between two stages
+/// are logged in it, if a processor is written down by then. Each call's file says when it is refused.
 #[inline(never)]
 pub fn serve(
     tables: &mut Tables,
+    changes: &mut Changes,
     caches: &Caches,
     master: usize,
     call: &Call,
@@ -49,40 +50,53 @@ pub fn serve(
 )
     requires kept { AreKept tables.old caches.now }
     requires along { along.old ≡ trail_from tables.old }
+    requires places { changes.old.procs.count ≡ length tables.old.now.core.procs }
     ensures verdict { verdict.new ≡ verdict_of (called master call.now tables.old) }
     ensures book { tables.new ≡ after_stages (stages_of (called master call.now tables.old)) tables.old }
+    ensures written { changes.new
+        ≡ written_along (stages_of (called master call.now tables.old)) tables.old changes.old }
     ensures along { Completes tables.old
         (path_from (stages_of (called master call.now tables.old)) tables.old) tables.new along.new }
-    ensures still { is_once call.now ≡ true → along.new ≡ along.old }
+    ensures still { changes.new.procs.list ≡ [] → along.new ≡ along.old }
 {
     match call {
         Call::ForcePowerdown { node, ack } => {
-            force_powerdown::serve(tables, master, *node, *ack, along, verdict);
+            force_powerdown::serve(tables, changes, master, *node, *ack, along, verdict);
         }
         Call::SystemShutdown {
             shutdown_type,
             subtype,
-        } => system_shutdown::serve(tables, master, *shutdown_type, *subtype, along, verdict),
-        _ => serve_once(tables, caches, master, call, verdict),
+        } => system_shutdown::serve(
+            tables,
+            changes,
+            master,
+            *shutdown_type,
+            *subtype,
+            along,
+            verdict,
+        ),
+        _ => serve_once(tables, changes, caches, master, call, verdict),
     }
 }
 
-/// Serves a call of one stage at most. It has those calls that only read the book, and those by which a master or a
-/// processor suspends, goes on in place of suspending, or wakes. The others are in `serve_changing`.
+/// Serves the calls of one stage at most. Those that tell what they read of the book are here, and those that suspend or
+/// wake a processor or a master, or abort a suspend. The others are in `serve_changing`.
 fn serve_once(
     tables: &mut Tables,
+    changes: &mut Changes,
     caches: &Caches,
     master: usize,
     call: &Call,
     verdict: &mut Verdict,
 )
     requires kept { AreKept tables.old caches.now }
-    requires once { is_once call.now ≡ true }
+    requires once { is_once (shape_of call.now) ≡ true }
     ensures verdict { verdict.new ≡ verdict_of (called master call.now tables.old) }
     ensures book { tables.new ≡ after_stages (stages_of (called master call.now tables.old)) tables.old }
+    ensures written { changes.new
+        ≡ written_along (stages_of (called master call.now tables.old)) tables.old changes.old }
 {
     match call {
-        Call::GetApiVersion => get_api_version::serve(verdict),
         Call::GetNodeStatus { node } => {
             get_node_status::serve(tables, caches, master, *node, verdict);
         }
@@ -98,30 +112,40 @@ fn serve_once(
             state,
         } => request_suspend::serve(tables, master, *node, *ack, *latency, *state, verdict),
         Call::SelfSuspend { node, address } => {
-            self_suspend::serve(tables, master, *node, *address, verdict);
+            self_suspend::serve(tables, changes, master, *node, *address, verdict);
         }
         Call::AbortSuspend { node, reason } => {
-            abort_suspend::serve(tables, master, *node, *reason, verdict);
+            abort_suspend::serve(tables, changes, master, *node, *reason, verdict);
         }
         Call::RequestWakeup { node, address, ack } => {
-            request_wakeup::serve(tables, master, *node, *address, *ack, verdict);
+            request_wakeup::serve(tables, changes, master, *node, *address, *ack, verdict);
         }
-        _ => serve_changing(tables, master, call, verdict),
+        _ => serve_changing(tables, changes, master, call, verdict),
     }
 }
 
-/// Serves any other call of one stage at most: it changes rows of the caller, a notifier, a reset line with the
-/// processor that it resets, or the object in force. Refused with NO_FEATURE if no call has its number.
-fn serve_changing(tables: &mut Tables, master: usize, call: &Call, verdict: &mut Verdict)
-    requires once { is_once call.now ≡ true }
-    requires changes { only_reads call.now ≡ false }
-    requires stays { is_suspending call.now ≡ false }
+/// Serves the other calls of one stage at most. GET_API_VERSION reads nothing of the book. Each other one changes the
+/// caller's rows or its holds, a notifier, a reset line and the processor that it resets, or the object in force. A call
+/// of unknown number is refused with NO_FEATURE.
+fn serve_changing(
+    tables: &mut Tables,
+    changes: &mut Changes,
+    master: usize,
+    call: &Call,
+    verdict: &mut Verdict,
+)
+    requires once { is_once (shape_of call.now) ≡ true }
+    requires changes { only_reads (shape_of call.now) ≡ false }
+    requires stays { is_suspending (shape_of call.now) ≡ false }
     ensures verdict { verdict.new ≡ verdict_of (called master call.now tables.old) }
     ensures book { tables.new ≡ after_stages (stages_of (called master call.now tables.old)) tables.old }
+    ensures written { changes.new
+        ≡ written_along (stages_of (called master call.now tables.old)) tables.old changes.old }
 {
     match call {
+        Call::GetApiVersion => get_api_version::serve(verdict),
         Call::SetConfiguration(address) => {
-            set_configuration::serve(tables, master, *address, verdict);
+            set_configuration::serve(tables, changes, master, *address, verdict);
         }
         Call::RegisterNotifier {
             node,
@@ -133,77 +157,21 @@ fn serve_changing(tables: &mut Tables, master: usize, call: &Call, verdict: &mut
             target,
             source,
             enable,
-        } => set_wakeup_source::serve(tables, master, *target, *source, *enable, verdict),
+        } => set_wakeup_source::serve(tables, changes, master, *target, *source, *enable, verdict),
         Call::RequestNode { node, caps, ack } => {
-            request_node::serve(tables, master, *node, *caps, *ack, verdict);
+            request_node::serve(tables, changes, master, *node, *caps, *ack, verdict);
         }
-        Call::ReleaseNode { node } => release_node::serve(tables, master, *node, verdict),
+        Call::ReleaseNode { node } => release_node::serve(tables, changes, master, *node, verdict),
         Call::SetRequirement { node, caps, ack } => {
-            set_requirement::serve(tables, master, *node, *caps, *ack, verdict);
+            set_requirement::serve(tables, changes, master, *node, *caps, *ack, verdict);
         }
         Call::SetMaxLatency { node, latency } => {
-            set_max_latency::serve(tables, master, *node, *latency, verdict);
+            set_max_latency::serve(tables, changes, master, *node, *latency, verdict);
         }
         Call::ResetAssert { line, action } => {
-            reset_assert::serve(tables, master, *line, *action, verdict);
+            reset_assert::serve(tables, changes, master, *line, *action, verdict);
         }
-        Call::InitFinalize => init_finalize::serve(tables, master, verdict),
+        Call::InitFinalize => init_finalize::serve(tables, changes, master, verdict),
         _ => verdict.refuse(NO_FEATURE),
-    }
-}
-
-/// Whether a call only reads the book.
-#[inline]
-pub fn only_reads(call: &Call) -> bool
-    ensures { result ≡ only_reads call.now }
-{
-    matches!(
-        call,
-        Call::GetApiVersion
-            | Call::GetNodeStatus { .. }
-            | Call::GetOpCharacteristic { .. }
-            | Call::ResetGetStatus { .. }
-    )
-}
-
-/// Whether a call has one stage at most: it is neither FORCE_POWERDOWN nor SYSTEM_SHUTDOWN.
-#[inline]
-pub fn is_once(call: &Call) -> bool
-    ensures { result ≡ is_once call.now }
-{
-    !matches!(
-        call,
-        Call::ForcePowerdown { .. } | Call::SystemShutdown { .. }
-    )
-}
-
-/// Whether a call changes no value of a unit: by it the caller is told of a node or not any more, another master is
-/// asked to suspend, or a processor of the caller starts to suspend, or goes on in place of suspending.
-#[inline]
-pub fn keeps_values(call: &Call) -> bool
-    ensures { result ≡ keeps_values (shape_of call.now) }
-{
-    matches!(
-        call,
-        Call::RegisterNotifier { .. }
-            | Call::RequestSuspend { .. }
-            | Call::SelfSuspend { .. }
-            | Call::AbortSuspend { .. }
-    )
-}
-
-/// The node of the slave of which a call changes the caller's row, if it is such a call. Then it changes nothing else
-/// of the book.
-#[inline]
-pub fn row_node(call: &Call) -> Option<NodeId>
-    ensures { result ≡ row_node (shape_of call.now) }
-{
-    match call {
-        Call::RequestNode { node, .. }
-        | Call::ReleaseNode { node }
-        | Call::SetRequirement { node, .. }
-        | Call::SetMaxLatency { node, .. } => Some(*node),
-        Call::SetWakeupSource { source, .. } => Some(*source),
-        _ => None,
     }
 }

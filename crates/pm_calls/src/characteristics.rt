@@ -18,7 +18,7 @@ pub struct Characteristics {
     pub latency: u32,
 }
 
-/// The characteristics of a processor or power node, by whether it is up.
+/// The characteristics of a processor or power node: up, it has its figure and no latency; down, its latency alone.
 fn powered(figure: u32, latency: u32, up: bool) -> Characteristics
     ensures { result ≡ powered figure latency up }
 {
@@ -29,7 +29,7 @@ fn powered(figure: u32, latency: u32, up: bool) -> Characteristics
     }
 }
 
-/// The characteristics of a slave in a state.
+/// The characteristics of a slave in one of its states, by its index; zeros if it has no such state.
 fn in_state(slave: &SlaveDef, state: u32) -> Characteristics
     ensures { result ≡ in_state (slice_get slave.now.states state) }
 {
@@ -45,7 +45,7 @@ fn in_state(slave: &SlaveDef, state: u32) -> Characteristics
     }
 }
 
-/// The power figure and the latency of the slave at a place in one of its states, if there is such a slave.
+/// The characteristics of the slave at a place in one of its states, or None if there is no such slave.
 fn slave_has(slaves: &[SlaveDef], place: usize, state: u32) -> Option<Characteristics>
     ensures { result ≡ option_map (λ (slave : Slave). in_state (slice_get slave.states state))
         (slice_get slaves.now place) }
@@ -56,7 +56,7 @@ fn slave_has(slaves: &[SlaveDef], place: usize, state: u32) -> Option<Characteri
     }
 }
 
-/// What a node has in the value that is kept, if the chip has it.
+/// The characteristics of a node in its present state, by its kept value; None if the chip has no such node.
 pub(crate) fn characteristics_of(
     tables: &Tables,
     caches: &Caches,

@@ -1,12 +1,12 @@
-//! A law of the calls.
+//! A law of the calls, for the crates above.
 
 ghost use Rattle.pm_calls.specs.Permissions.{ArePermissions};
 
 use pm_grants::grants_are_permissions;
 use pm_state::loads_are_sound;
 
-/// What a call is checked for by places and compiled masks is what the object in force permits its sender, by the numbers in
-/// the object's records.
+/// The permission check of each call is what the object in force permits its sender, read from the numbers in the
+/// object's records. The code itself decides by places and compiled masks.
 pub fn checks_are_permissions()
     ensures { ArePermissions }
 {

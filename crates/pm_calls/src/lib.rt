@@ -1,6 +1,7 @@
-//! The calls of the power management API (UG1200) over a book, one file each, and the events that are no calls.
+//! The calls of the power management API (UG1200) over a book, one file each, and the events that are no messages.
 #![tactic(auto)]
 
+mod between;
 mod calls;
 mod characteristics;
 mod events;
@@ -9,7 +10,7 @@ mod reset_lines;
 mod verdict;
 mod views;
 
-pub use calls::{is_once, keeps_values, only_reads, row_node, serve};
+pub use calls::serve;
 pub use events::{boot, interrupt, raise, wait};
 pub use laws::checks_are_permissions;
 pub use verdict::{Asked, Say, Verdict, aborted_by, asked_by};

@@ -15,8 +15,8 @@ pub struct OwnedProc {
     pub proc: usize,
 }
 
-/// What a master sees of a reset line: its place, if the chip has it, whether the object permits the
-/// master to reset it, and the processor that it resets, if it resets one that a configured master has.
+/// What a master sees of a reset line: its place, if the chip has it; whether the object permits the master to reset
+/// it; and the processor that it resets, if a configured master has that.
 #[derive(Clone, Copy, Debug, PartialEq, Eq)]
 pub struct LineView {
     pub place: Option<usize>,
@@ -38,8 +38,7 @@ fn line_place(tables: &Tables, line: LineId) -> Option<usize>
     tables.topology().line_place(line)
 }
 
-/// What the calls on reset lines read of one: its place, whether the caller may reset it, and whose processor it
-/// resets.
+/// What the calls read of a reset line.
 pub(crate) fn line_view(tables: &Tables, master: usize, line: LineId) -> LineView
     ensures { result ≡ line_view master line tables.now }
 {
@@ -51,7 +50,7 @@ pub(crate) fn line_view(tables: &Tables, master: usize, line: LineId) -> LineVie
     }
 }
 
-/// Whether a master may reset the line at a place, if there is one.
+/// Whether the object permits a master to reset the line at a place; false without a place.
 fn can_reset(tables: &Tables, master: usize, place: Option<usize>) -> bool
     ensures { result ≡ can_reset master place tables.now }
 {
@@ -69,14 +68,14 @@ fn reset_at(tables: &Tables, place: Option<usize>) -> Option<OwnedProc>
     owned_node(tables, line.target)
 }
 
-/// The processor that a target is, with its owner, if a configured master has it.
+/// The processor that a target is, with its owner; None if the target is no processor that a configured master has.
 fn owned_node(tables: &Tables, target: Option<NodeId>) -> Option<OwnedProc>
     ensures { result ≡ owned_node target tables.now.fixed }
 {
     owned_of(tables, tables.kind(target?))
 }
 
-/// The processor of a node of this kind, with its owner, if a configured master has it.
+/// The processor of a node of this kind, with its owner; None if it isn't one that a configured master has.
 fn owned_of(tables: &Tables, kind: Kind) -> Option<OwnedProc>
     ensures { result ≡ owned_of kind tables.now.fixed }
 {
@@ -86,7 +85,7 @@ fn owned_of(tables: &Tables, kind: Kind) -> Option<OwnedProc>
     }
 }
 
-/// The value of a reset line, if the chip has it.
+/// The value of a reset line, 0 or 1; None if the chip has no such line.
 pub(crate) fn line_status(tables: &Tables, line: LineId) -> Option<u32>
     ensures { result ≡ line_status line tables.now }
 {
@@ -94,7 +93,7 @@ pub(crate) fn line_status(tables: &Tables, line: LineId) -> Option<u32>
     Some(tables.resets().value(place))
 }
 
-/// The processor with its owner, if it has one.
+/// A processor with its owner; None if it has no owner.
 fn owned_by(owner: Option<usize>, p: usize) -> Option<OwnedProc>
     ensures { result ≡ owned_by owner p }
 {

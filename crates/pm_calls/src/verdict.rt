@@ -10,8 +10,8 @@ use pm_ipi::Response;
 use pm_notify::NodeEvent;
 use pm_procs::Pending;
 
-/// A master is asked to suspend: its place, the request, and the words that it is told: how long it may
-/// take to be back, the state that is asked for, and the time that it has (UG1200, callback 30).
+/// A request to a master to suspend: the target's place, the request as it is kept, and the three words of callback
+/// 30 (UG1200): how long the target may take to be back, the state that is asked for, and its timeout.
 #[derive(Clone, Copy, Debug, PartialEq, Eq)]
 pub struct Asked {
     pub target: usize,
@@ -21,8 +21,7 @@ pub struct Asked {
     pub timeout: u32,
 }
 
-/// A notifier that a call puts: the place of the master, and whether it is told of the event of the node
-/// from now on.
+/// A notifier that a call sets or removes: the place of its master, the node, the event, and whether it is set.
 #[derive(Clone, Copy, Debug, PartialEq, Eq)]
 pub struct Notifier {
     pub master: usize,
@@ -31,8 +30,8 @@ pub struct Notifier {
     pub on: bool,
 }
 
-/// What a call has the masters told: one of them is asked to suspend, the one at a place aborts its
-/// suspend, a notifier is put, all is restarted, or no master is told of anything any more.
+/// What the masters are to be told because of a call: one is asked to suspend, the one at a place aborts its suspend,
+/// a notifier is set or removed, all is restarted, or all notifiers are removed.
 #[derive(Clone, Copy, Debug, PartialEq, Eq)]
 pub enum Say {
     Ask(Asked),
@@ -42,8 +41,8 @@ pub enum Say {
     Unwatch,
 }
 
-/// What an accepted call does besides its changes of the book, which are made as it is served: the words that it tells
-/// its caller, what the masters are told, and the reset line that it pulses.
+/// The effects of an accepted call, besides its changes of the book: the words for its caller, what the masters are
+/// told, and the reset line that it pulses.
 #[derive(Clone, Copy, Debug, PartialEq, Eq)]
 pub struct Effects {
     pub words: [u32; 3],
@@ -51,33 +50,33 @@ pub struct Effects {
     pub pulse: Option<LineId>,
 }
 
-/// What a message comes to.
+/// The outcome of a message.
 #[derive(Clone, Copy, Debug, PartialEq, Eq)]
 pub enum Verdict {
-    /// Its sender isn't heard.
+    /// The sender isn't heard.
     Dropped,
-    /// A check of its call fails, and this is the response.
+    /// A check of the call fails; this is the response.
     Refused(Response),
-    /// All checks of its call hold.
+    /// All checks of the call hold; these are its effects.
     Accepted(Effects),
 }
 
 impl Verdict {
-    /// The call is refused with this response.
+    /// Refuses the call with this response.
     pub(crate) fn refuse_by(&mut self, response: Response)
         ensures { self.new ≡ verdict.Refused response }
     {
         *self = Verdict::Refused(response);
     }
 
-    /// The call is refused with this status.
+    /// Refuses the call with this status, and no words.
     pub(crate) fn refuse(&mut self, status: u32)
         ensures { self.new ≡ verdict.Refused (refusal status) }
     {
         *self = Verdict::Refused(Response::refusal(status));
     }
 
-    /// The call tells these words.
+    /// Accepts the call, which tells its caller these words.
     pub(crate) fn tell(&mut self, words: [u32; 3])
         ensures { self.new ≡ verdict.Accepted (told words) }
     {
@@ -88,14 +87,14 @@ impl Verdict {
         });
     }
 
-    /// The call is done, and tells nothing.
+    /// Accepts the call, which tells nothing.
     pub(crate) fn finish(&mut self)
         ensures { self.new ≡ verdict.Accepted (saying None) }
     {
         self.tell([0; 3]);
     }
 
-    /// The call has the masters told this.
+    /// Accepts the call, which has the masters told this.
     pub(crate) fn say(&mut self, say: Say)
         ensures { self.new ≡ verdict.Accepted (saying (Some say)) }
     {
@@ -106,7 +105,7 @@ impl Verdict {
         });
     }
 
-    /// The call pulses this reset line, if there is one.
+    /// Accepts the call, which pulses this reset line, if there is one.
     pub(crate) fn pulse_by(&mut self, line: Option<LineId>)
         ensures { self.new ≡ verdict.Accepted (pulsing line) }
     {
@@ -117,7 +116,7 @@ impl Verdict {
         });
     }
 
-    /// What the masters are told.
+    /// What the masters are told because of the message, if anything.
     pub fn says(&self) -> Option<Say>
         ensures { result ≡ says_of self.now }
     {
@@ -127,7 +126,7 @@ impl Verdict {
         }
     }
 
-    /// The reset line that is pulsed.
+    /// The reset line that the message pulses, if any.
     pub fn pulse(&self) -> Option<LineId>
         ensures { result ≡ pulse_of self.now }
     {
@@ -137,8 +136,8 @@ impl Verdict {
         }
     }
 
-    /// The response that the sender gets now. A call that asks a master to suspend is answered when that
-    /// request ends.
+    /// The response that the sender gets at once. None if the message is dropped, or asks a master to suspend: that
+    /// is answered when the request ends.
     pub fn response(&self) -> Option<Response>
         ensures { result ≡ response_of self.now }
     {
@@ -153,7 +152,7 @@ impl Verdict {
     }
 }
 
-/// The master that is asked to suspend.
+/// The request, if a master is asked to suspend.
 pub fn asked_by(says: Option<Say>) -> Option<Asked>
     ensures { result ≡ asked_by says }
 {
@@ -163,7 +162,7 @@ pub fn asked_by(says: Option<Say>) -> Option<Asked>
     }
 }
 
-/// The place of the master that aborts its suspend.
+/// The place of the master that aborts its suspend, if one does.
 pub fn aborted_by(says: Option<Say>) -> Option<usize>
     ensures { result ≡ aborted_by says }
 {

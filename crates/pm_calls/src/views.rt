@@ -1,4 +1,4 @@
-//! What the calls read of the book.
+//! What the calls read of the book: each view is read once, and the checks of a call are made on it.
 
 ghost use Rattle.std.specs.Prelude.{◌≡◌};
 ghost use Rattle.pm_rows.specs.Rows.{now_of};
@@ -14,8 +14,8 @@ use pm_state::{Tables, master_node};
 use pm_topology::Kind;
 use pm_values::{Caches, value};
 
-/// What a master sees of its row on a slave: the slave's place, the row if the pair is permitted,
-/// and the other master that uses the slave if it can't be shared.
+/// What a master sees of its row on a slave: the slave's place, if the node is one; the row, if the object permits
+/// the pair; and the other master that uses the slave, if it can't be shared.
 #[derive(Clone, Copy, Debug, PartialEq, Eq)]
 pub struct RowView {
     pub slave: Option<usize>,
@@ -23,9 +23,9 @@ pub struct RowView {
     pub rival: Option<NodeId>,
 }
 
-/// What a master is told of a node: its operating point, and for a slave the capabilities that the master
-/// wants of it now and who uses it (0 nobody, 1 only the master, 2 only others, 3 both). There is no
-/// state if no node has the number.
+/// The answer to a question for a node's status: its operating point, or None if the chip has no such node. Of a
+/// slave it has the capabilities that the master requires of it now, and who uses it: 0 nobody, 1 only the master, 2
+/// only others, 3 both.
 #[derive(Clone, Copy, Debug, PartialEq, Eq)]
 pub struct StatusView {
     pub state: Option<u32>,
@@ -33,31 +33,31 @@ pub struct StatusView {
     pub usage: u32,
 }
 
-/// What a master sees of a processor: its place, if the node is one, and its mode and resume address
-/// if it is the master's own.
+/// What a master sees of a processor: its place, if the node is one, and its mode and resume address, if it is its
+/// own.
 #[derive(Clone, Copy, Debug, PartialEq, Eq)]
 pub struct ProcView {
     pub place: Option<usize>,
     pub own: Option<Proc>,
 }
 
-/// A processor that may be woken: the place of the master that has it, and its mode and resume address.
+/// A processor that may be woken: the place of its owner, and its mode and resume address.
 #[derive(Clone, Copy, Debug, PartialEq, Eq)]
 pub struct Wakeable {
     pub owner: usize,
     pub proc: Proc,
 }
 
-/// What a master sees of a processor that it wants to wake: its place, if the node is one, and the
-/// processor if the master may wake it.
+/// What a master sees of a processor that it wants to wake: its place, if the node is one, and the processor, if it
+/// may.
 #[derive(Clone, Copy, Debug, PartialEq, Eq)]
 pub struct WakeView {
     pub place: Option<usize>,
     pub target: Option<Wakeable>,
 }
 
-/// A master that may be asked to suspend: its place, whether a request is pending on it, its mode, and the
-/// time that the object gives it.
+/// A master that may be asked to suspend: its place, whether a request is pending on it, its mode, and its timeout in
+/// units of the script's time.
 #[derive(Clone, Copy, Debug, PartialEq, Eq)]
 pub struct Suspendable {
     pub master: usize,
@@ -66,16 +66,16 @@ pub struct Suspendable {
     pub timeout: u32,
 }
 
-/// What a master sees of one that it asks to suspend: whether the node can name a master, and the master
-/// that it names if that may be asked.
+/// What a master sees of another that it asks to suspend: whether the node can name a master, and the master, if the
+/// object permits it.
 #[derive(Clone, Copy, Debug, PartialEq, Eq)]
 pub struct SuspendView {
     pub named: bool,
     pub target: Option<Suspendable>,
 }
 
-/// What a master sees of a node of which it wants to be told: a slave, and whether the master may use it, a
-/// power node, or nothing.
+/// What a master sees of a node for which it sets a notifier: a slave, and whether the master may use it; a power
+/// node; or neither.
 #[derive(Clone, Copy, Debug, PartialEq, Eq)]
 pub enum Watched {
     Nothing,
@@ -83,7 +83,7 @@ pub enum Watched {
     SlaveNode { permitted: bool },
 }
 
-/// What a row requires now: nothing if there is no row or it isn't used.
+/// The capabilities that a row requires now; none without a row, or if it isn't used.
 fn now_of(entry: Option<Entry>) -> Caps
     ensures { result ≡ now_of entry }
 {
@@ -93,7 +93,7 @@ fn now_of(entry: Option<Entry>) -> Caps
     }
 }
 
-/// The other master that uses a slave which can't be shared.
+/// The node of another master that uses this slave, if the slave can't be shared.
 pub(crate) fn rival_node(tables: &Tables, master: usize, slave: usize) -> Option<NodeId>
     ensures { result ≡ Views.rival_node master slave tables.now }
 {
@@ -103,7 +103,7 @@ pub(crate) fn rival_node(tables: &Tables, master: usize, slave: usize) -> Option
     }
 }
 
-/// What a call reads of a processor: its place, and its state if it is the caller's.
+/// What a call reads of a processor: its place, and its mode and resume address if it is the caller's.
 #[inline(always)]
 pub(crate) fn proc_view(tables: &Tables, master: usize, node: NodeId) -> ProcView
     ensures { result ≡ proc_view master node tables.now }
@@ -120,7 +120,7 @@ pub(crate) fn proc_view(tables: &Tables, master: usize, node: NodeId) -> ProcVie
     }
 }
 
-/// The state of the processor at a place, if the master has it.
+/// The mode and resume address of the processor at place `p`, if the master has it.
 fn own_proc(tables: &Tables, master: usize, p: usize) -> Option<Proc>
     ensures { result ≡ own_proc master p tables.now }
 {
@@ -131,7 +131,7 @@ fn own_proc(tables: &Tables, master: usize, p: usize) -> Option<Proc>
     }
 }
 
-/// What REQUEST_WAKEUP reads of a processor: its place, and its state if the caller may wake it.
+/// What REQUEST_WAKEUP reads of a processor: its place, and the processor if the caller may wake it.
 pub(crate) fn wake_view(tables: &Tables, master: usize, node: NodeId) -> WakeView
     ensures { result ≡ wake_view master node tables.now }
 {
@@ -147,7 +147,7 @@ pub(crate) fn wake_view(tables: &Tables, master: usize, node: NodeId) -> WakeVie
     }
 }
 
-/// The processor at a place with its owner, if it has one and the master may wake that.
+/// The processor at place `p` with its owner, if it has one and the master may wake its processors.
 fn wake_target(tables: &Tables, master: usize, p: usize, owner: Option<usize>) -> Option<Wakeable>
     ensures { result ≡ wakeable master p owner tables.now }
 {
@@ -162,7 +162,7 @@ fn wake_target(tables: &Tables, master: usize, p: usize, owner: Option<usize>) -
     }
 }
 
-/// Whether a master may wake the processors of another: they are its own, or the object permits it.
+/// Whether a master may wake the processors of `owner`: they are its own, or the object permits it.
 fn can_wake(tables: &Tables, master: usize, owner: usize) -> bool
     ensures { result ≡ can_wake master owner tables.now }
 {
@@ -183,7 +183,7 @@ pub(crate) fn is_asked(tables: &Tables, m: usize) -> bool
     tables.procs().pending(m).is_some()
 }
 
-/// What REQUEST_SUSPEND reads: whether the node names a master, and that master if the caller may suspend it.
+/// What REQUEST_SUSPEND reads: whether the node can name a master, and that master if the caller may suspend it.
 pub(crate) fn suspend_view(tables: &Tables, master: usize, node: NodeId) -> SuspendView
     ensures { result ≡ suspend_view master node tables.now }
 {
@@ -193,14 +193,14 @@ pub(crate) fn suspend_view(tables: &Tables, master: usize, node: NodeId) -> Susp
     }
 }
 
-/// Whether a node can name a master: it is a processor, or a number that masters have.
+/// Whether a node can name a master: it is a processor, or a master's number.
 fn names_master(tables: &Tables, node: NodeId) -> bool
     ensures { result ≡ names_master tables.now.fixed node }
 {
     matches!(tables.kind(node), Kind::Proc(_)) || is_master_node(node.0)
 }
 
-/// What is asked of the master at a place, if there is one and the caller may suspend it.
+/// The master at a place as a target of REQUEST_SUSPEND; None if there is none, or the object doesn't permit it.
 fn suspend_target(tables: &Tables, master: usize, target: Option<usize>) -> Option<Suspendable>
     ensures { result ≡ suspendable master target tables.now }
 {
@@ -212,7 +212,7 @@ fn suspend_target(tables: &Tables, master: usize, target: Option<usize>) -> Opti
     }
 }
 
-/// The mode of the master at a place, whether a request is pending on it, and its timeout by the object in force.
+/// The master at a place as a target of REQUEST_SUSPEND, with its timeout by the object in force.
 fn suspendable_at(tables: &Tables, target: usize) -> Suspendable
     ensures { result ≡ suspendable_at target tables.now }
 {
@@ -224,14 +224,14 @@ fn suspendable_at(tables: &Tables, target: usize) -> Suspendable
     }
 }
 
-/// Whether the object permits a master to ask another one that it suspends.
+/// Whether the object permits a master to ask another one to suspend.
 fn can_suspend(tables: &Tables, master: usize, target: usize) -> bool
     ensures { result ≡ can_suspend master target tables.now }
 {
     tables.grants().permits_suspend(master, target)
 }
 
-/// What REGISTER_NOTIFIER reads of a node: of a slave whether the caller may use it.
+/// What REGISTER_NOTIFIER reads of a node: its kind, and of a slave whether the caller may use it.
 pub(crate) fn watched_node(tables: &Tables, master: usize, node: NodeId) -> Watched
     ensures { result ≡ watched master node tables.now }
 {
@@ -244,7 +244,7 @@ pub(crate) fn watched_node(tables: &Tables, master: usize, node: NodeId) -> Watc
     }
 }
 
-/// What is told of a node that isn't a slave: its operating point alone.
+/// The status of a node that isn't a slave: its operating point alone.
 fn plain(value: u32) -> StatusView
     ensures { result ≡ Views.plain value }
 {

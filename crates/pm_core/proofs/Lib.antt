@@ -1,2 +1,2 @@
-pub mod PassLaw
 pub mod Refused
+pub mod TurnedLaw

@@ -1,5 +1,5 @@
 -- What a step puts out, and how the sender of a message is answered; beside what an event does to the book.
-use Rattle.std.specs.Prelude.{true, [], ◌∷◌, Option, Some, None}
+use Rattle.std.specs.Prelude.{◌==◌, Bool, true, not, [], ◌∷◌, length, Option, Some, None}
 use Rattle.pm_base.specs.declared.names.NodeId.{NodeId}
 use Rattle.pm_base.specs.declared.events.Event.{Event}
 use Rattle.pm_ipi.specs.declared.calls.Call.{Call}
@@ -15,6 +15,7 @@ use Rattle.pm_calls.specs.declared.verdict.Verdict.{Verdict}
 use Rattle.pm_calls.specs.declared.verdict.Verdict.TheVariants.{Dropped, Refused, Accepted}
 use Rattle.pm_tell.specs.Callbacks.{callbacks, late_replies}
 use Rattle.pm_core.specs.Outbox.{Outputs}
+use Rattle.pm_state.specs.Changes.{Written, nothing_written, written_along}
 use Rattle.pm_state.specs.Stages.{after_stages}
 use Rattle.pm_values.specs.Starts.{starts, was_down}
 use Rattle.pm_state.specs.State.{State}
@@ -24,7 +25,6 @@ use Rattle.pm_calls.specs.Verdict.{response_of}
 use Rattle.pm_state.specs.Nodes.{master_mode}
 use Rattle.pm_tell.specs.Telling.{notes_after}
 pub use Rattle.pm_step.specs.Step.{may_call, call_at, call_in, verdict, message_stages, is_ipi, configures, unless_halted, stages, path, served, says, asks, renews, pulse, time_of, ended, forgets, opening, notices, news, modes_in, talk, effect, is_refused}
-pub use Rattle.pm_step.specs.Within.{is_action, may_change, touched_at, row_place, touched_in, touched_by, touched, is_proc_in, leaves_values, touched_unless}
 
 -- how a response reaches the caller, by the acknowledge kind of the call, in the book after it: the callback is
 -- written where the caller is active or suspending then
@@ -67,6 +67,16 @@ outputs event book = record {
       (notes_after (opening event book) (after_stages (stages event book) book)) (effect event book);
   answer = answer_to event book;
 }
+
+-- nothing is written down of the step of a book yet
+abbrev pub nothing_of : State → Written
+nothing_of book =
+    nothing_written (length book.fixed.topology.slaves) (length book.now.core.procs) (length book.fixed.topology.lines)
+    (length book.fixed.object.masters)
+
+-- a processor goes to a mode in a step: it is written down
+abbrev pub turns_proc : Event → State → Bool
+turns_proc event book = not (length (written_along (stages event book) book (nothing_of book)).procs.list == 0)
 
 -- what the load puts out: before it all values are 0, and all processors are off
 abbrev pub outputs_at_load : State → Outputs

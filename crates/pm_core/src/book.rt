@@ -4,12 +4,13 @@ ghost use Rattle.std.specs.Prelude.{◌≡◌, ◌<◌, IsTrue, IfOk, IfErr, Ok,
 ghost use Rattle.pm_base.specs.declared.names.Unit.{Unit as Part};
 ghost use Rattle.pm_topology.specs.Units.{units_of};
 ghost use Rattle.pm_topology.specs.WellFormed.{IsWellFormed};
+ghost use Rattle.pm_state.specs.Changes.{HasPlaces as HasPlacesToWrite};
 ghost use Rattle.pm_state.specs.Fed.{IsFed};
 ghost use Rattle.pm_state.specs.Load.{load_of};
 ghost use Rattle.pm_core.specs.Begun.{IsBegun};
 ghost use Rattle.pm_core.specs.Outbox.{HasRoom, HasRoomFor, Holds, IsEmpty, KeepsRoom};
 ghost use Rattle.pm_perms.specs.Permits.{may_use};
-ghost use Rattle.pm_core.specs.Step.{effect, leaves_values, outputs, outputs_at_load, is_refused};
+ghost use Rattle.pm_core.specs.Step.{effect, outputs, outputs_at_load, is_refused, turns_proc};
 ghost use Rattle.pm_core.specs.Usage.{usage};
 ghost use Rattle.pm_state.specs.State.{in_force, objects_of};
 ghost use Rattle.pm_state.specs.Sound.{IsSound, StandsAsWanted, MeetsRequirements};
@@ -22,12 +23,9 @@ use crate::outbox::Outbox;
 use pm_base::{Event, List, Mode, NoMemory, NodeId, Unit, with};
 use pm_object::{Attached, Object};
 use pm_rows::Row;
-use pm_state::Tables;
-use pm_step::{
-    advance, begin, begin_after, books_stay_sound, is_idle, is_quiet, leaves_values, tell_event,
-    time_of, touched_unless,
-};
-use pm_tell::{Served, Telling, pulse_in};
+use pm_state::{Changes, Tables};
+use pm_step::{advance, begin, begin_after, books_stay_sound, time_of};
+use pm_tell::{Served, Telling, pulse_in, tell};
 use pm_topology::{Topology, kinds_are_exact, units_stand_in_order};
 use pm_values::{Caches, point, value, value_at, values_meet};
 use std::alloc::Global;
@@ -37,23 +35,24 @@ use std::marker::Model;
 /// of a master and a slave, the mode and resume address of each processor, whether each reset line is
 /// asserted, whether all is halted, and for each master the request to suspend that is pending on it and
 /// its notes about each unit of the chip. These contracts see. It also keeps what is found of the values,
-/// what is logged of a step until the masters are told of it, and the place for the message of an event and the verdict
-/// on it, which is used again by the next one.
+/// what is logged of a step until the masters are told of it, what the step writes down of what it touches, and
+/// the place for the message of an event and the verdict on it, which is used again by the next one.
 #[derive(Drop)]
 pub struct Book {
     pub(crate) tables: Tables,
     pub(crate) caches: Caches,
     pub(crate) telling: Telling,
+    pub(crate) changes: Changes,
     pub(crate) served: Option<Served>,
 }
 
 impl Model for Book {
     ghost use Rattle.std.specs.Prelude.{length};
     ghost use Rattle.pm_values.specs.Caches.{AreKept};
+    ghost use Rattle.pm_state.specs.Changes.{HasPlaces as HasPlacesToWrite};
     ghost use Rattle.pm_state.specs.Sound.{IsBook};
     ghost use Rattle.pm_state.specs.State.{State};
-    ghost use Rattle.pm_step.specs.Fresh.{IsFresh};
-    ghost use Rattle.pm_tell.specs.Telling.{HasPlaces};
+    ghost use Rattle.pm_tell.specs.Telling.{HasPlaces, IsFresh};
 
     ghost Value = { State };
 
@@ -61,7 +60,8 @@ impl Model for Book {
 
     ghost invariant = { λ book. IsBook book.tables × AreKept book.tables book.caches
         × HasPlaces book.tables.fixed.topology (length book.tables.fixed.object.masters) book.telling
-        × IsFresh book.tables book.telling };
+        × IsFresh book.tables book.telling
+        × HasPlacesToWrite book.tables.fixed book.changes };
 }
 
 impl Book {
@@ -101,7 +101,7 @@ impl Book {
         let tables = Tables::load(alloc, object, attached, topology)?;
         let kept = kept_of(alloc, &tables);
         let (tables, kept) = with(tables, kept)?;
-        let (mut caches, mut telling) = kept;
+        let ((mut caches, mut telling), changes) = kept;
         caches.update(
             &tables,
             &telling.along,
@@ -114,6 +114,7 @@ impl Book {
             tables,
             caches,
             telling,
+            changes,
             served: None,
         })
     }
@@ -133,6 +134,7 @@ impl Book {
         ensures book { self.new ≡ effect event.now self.old }
         ensures fixed { self.new.fixed ≡ self.old.fixed }
         ensures out { Holds (outputs event.now self.old) out.new }
+        ensures turned { out.new.turned ≡ turns_proc event.now self.old }
         ensures room { KeepsRoom out.old out.new }
         ensures ready { HasRoomFor self.new out.new }
         // A message that is dropped, or whose status isn't 0, changes nothing.
@@ -142,51 +144,43 @@ impl Book {
         ensures met { MeetsRequirements self.new (λ u. value u self.new) }
     {
         out.clear();
-        let still = leaves_values(&self.tables, event);
-        // Nothing comes of such an event.
-        if is_idle(still, &self.tables, event) {
-            self.stays_sound();
-            return;
-        }
-        self.proceed(still, event, out);
+        self.proceed(event, out);
         self.stays_sound();
     }
 
-    /// Steps an event that may have an effect, with an empty outbox. `still`: no value can change.
-    fn proceed(&mut self, still: bool, event: &Event, out: &mut Outbox)
-        requires still { still ≡ leaves_values event.now self.old }
+    /// Steps an event with an empty outbox: it is taken, the values are brought up to date by what was written down of it,
+    /// the masters are told, and its sender is answered.
+    fn proceed(&mut self, event: &Event, out: &mut Outbox)
         requires room { HasRoomFor self.old out.old }
         requires empty { IsEmpty out.old }
         ensures book { self.new ≡ effect event.now self.old }
         ensures out { Holds (outputs event.now self.old) out.new }
+        ensures turned { out.new.turned ≡ turns_proc event.now self.old }
         ensures room { KeepsRoom out.old out.new }
     {
         units_stand_in_order();
         kinds_are_exact();
         books_stay_sound();
         let count = time_of(&self.tables, event);
+        self.changes.clear();
         advance(
             &mut self.tables,
+            &mut self.changes,
             &self.caches,
             event,
             &mut self.telling,
             &mut self.served,
         );
-        // Its sender alone is told of such a message.
-        if is_quiet(event, &self.served, count) {
-            answer(&self.tables, &self.caches, &self.served, &mut out.answer);
-            return;
-        }
-        self.caches.follow(
-            touched_unless(still, &self.tables, event, &self.served),
+        out.turned = self.telling.moved;
+        self.caches.bring(
+            &self.changes,
             &self.tables,
             &self.telling.along,
-            &self.telling.modes,
             &mut out.moved,
             &mut out.starts,
             &mut self.telling.notices,
         );
-        tell_event(
+        tell(
             &mut self.tables,
             &self.caches,
             &mut self.telling,
@@ -195,7 +189,7 @@ impl Book {
             &mut out.late,
             &mut out.callbacks,
         );
-        begin_after(&self.tables, event, &self.served, &mut self.telling);
+        begin_after(&self.tables, &mut self.telling);
         out.pulse = pulse_in(&self.served);
         answer(&self.tables, &self.caches, &self.served, &mut out.answer);
     }
@@ -346,8 +340,25 @@ impl Book {
     }
 }
 
+/// What is kept of the values of tables, before anything is found, what is logged of a step, and what it writes down.
+fn kept_of(alloc: Global, tables: &Tables) -> Result<((Caches, Telling), Changes), NoMemory>
+    ensures begun { IfOk result (λ kept. IsBegun tables.now kept.0.0 kept.0.1) }
+    ensures places { IfOk result (λ kept. HasPlacesToWrite tables.now.fixed kept.1) }
+{
+    let kept = begun(alloc, tables)?;
+    let t = tables.topology();
+    let changes = Changes::load(
+        alloc,
+        t.slaves.len(),
+        t.procs.len(),
+        t.lines.len(),
+        tables.masters(),
+    );
+    with(kept, changes)
+}
+
 /// What is kept of the values of tables, before anything is found, and what is logged of a step.
-fn kept_of(alloc: Global, tables: &Tables) -> Result<(Caches, Telling), NoMemory>
+fn begun(alloc: Global, tables: &Tables) -> Result<(Caches, Telling), NoMemory>
     ensures { IfOk result (λ kept. IsBegun tables.now kept.0 kept.1) }
 {
     let caches = Caches::load(alloc, tables)?;

@@ -19,11 +19,13 @@ fn take_apart(book: &Book) {
         tables,
         caches,
         telling,
+        changes,
         served: _,
     } = book;
     tables.name_fields();
     caches.name_fields();
     telling.name_fields();
+    changes.name_fields();
 }
 
 /// The chip's own table.

@@ -20,12 +20,13 @@ pub struct Done {
     pub ok: bool,
 }
 
-/// What a step puts out: the units whose value it changed, in the order of the units, the reset line that
-/// it pulses, the processors that it started, by number, the late replies and the callbacks to masters that wait for
+/// What a step puts out: the units whose value it changed, in the order of the units, whether a processor went to a mode,
+/// even to the one that it had, the reset line that it pulses, the processors that it started, by number, the late replies and the callbacks to masters that wait for
 /// them, and the answer. The commands that are done for it are put in by whoever drives the device.
 #[derive(Drop)]
 pub struct Outbox {
     pub moved: BoundedList<Unit>,
+    pub turned: bool,
     pub pulse: Option<LineId>,
     pub done: BoundedList<Done>,
     pub starts: BoundedList<Start>,
@@ -50,6 +51,7 @@ impl Outbox {
         let callbacks = most_callbacks(units, masters).ok_or(NoMemory)?;
         Ok(Outbox {
             moved: BoundedList::with_room(alloc, units)?,
+            turned: false,
             pulse: None,
             done: BoundedList::with_room(alloc, commands)?,
             starts: BoundedList::with_room(alloc, t.procs.len())?,
@@ -65,6 +67,7 @@ impl Outbox {
         ensures room { KeepsRoom self.old self.new }
     {
         self.moved.clear();
+        self.turned = false;
         self.pulse = None;
         self.done.clear();
         self.starts.clear();

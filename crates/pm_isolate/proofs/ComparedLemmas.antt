@@ -1,4 +1,4 @@
--- What a comparison means, and how it came about.
+-- The meaning of a comparison, and how it came about.
 use Rattle.std.proofs.Common.{◌≡◌, ℕ, ◌+◌, Bool, List, [], ◌∷◌, ◌++◌, length, Option, Some, None, Result, Ok, Err, refl, sym, ◌∙◌, ap, subst}
 use Rattle.std.specs.List.{concat}
 use Rattle.std.proofs.lemmas.List.{append-nil}
@@ -58,7 +58,7 @@ module _ {I O : Type 0} (i : Inputs.Ghosts I) (o : Sink.Ghosts O) (object : Obje
   pub script_asked : (job : Result Comparison Fault) → IsComparisonOf i object t m name old new result job → IsScriptOf i name old new result (script_of_job job)
   script_asked job asked = asked.script
 
-  -- ---- what a comparison means
+  -- ---- the meaning of a comparison
 
   pub compare_done : Compared i o object t m name old new sink sink' result → ((members : List Member) (events : List Event) → IsReach (objects_in object (attached_by events)) t m members → AreListed (setup_for object t events) m members (passed events)) → i.observable → o.observable → result ≡ exit.Done → IsCompared i o object t m name old sink sink'
   compare_done did listed seen written done = by did.job refl did.asked ((scripts.said i o script_of_job (comparison_report object t m) (of_script object t m) name old new sink sink' result (IsComparisonOf i object t m name old new result) script_asked TouchesNothing did).done done)
@@ -92,15 +92,15 @@ module _ {I O : Type 0} (i : Inputs.Ghosts I) (o : Sink.Ghosts O) (object : Obje
   compare_refused : (fault : Fault) → IsComparisonOf i object t m name old new result (Err fault) → Reports o (refusal fault) sink sink' result → Compared i o object t m name old new sink sink' result
   compare_refused fault asked reports = record { job = Err fault; answers = []; cut = reports.cut; asked = asked; left = reports.left; ends = reports.ends; touched = tt }
 
-  -- memory was wanted
+  -- memory ran out
   pub compare_starved : Reports o (refusal Memory) sink sink' result → Compared i o object t m name old new sink sink' result
   compare_starved reports = compare_refused Memory (record { script = scripts.asked_starved i name old new result (scripts.memory_exit o sink sink' result reports); reach = tt }) reports
 
-  -- the script could not be begun
+  -- the script couldn't be opened
   pub compare_unbegun : (i.observable → script_in (i.state old) name ≡ None) → Rose (i.state old).faults (i.state new).faults → Reports o (refusal Read) sink sink' result → Compared i o object t m name old new sink sink' result
   compare_unbegun none rose reports = compare_refused Read (record { script = scripts.asked_unbegun i name old new result none rose; reach = tt }) reports
 
-  -- a script was read, and this is written of it and of the reach of the master
+  -- a script was read, and this is its report with the reach of the master
   abbrev pub compare_ran : (s : Script) (members : List Member) → (i.observable → script_in (i.state old) name ≡ Some s) → (result ≡ exit.ReadFault → Rose (i.state old).faults (i.state new).faults) → IsReach (objects_in object (attached_by s.events)) t m members → Reports o (isolate_report (setup_for object t s.events) m members (ran s)) sink sink' result → Compared i o object t m name old new sink sink' result
   compare_ran s members read fails reach reports = record {
     job = Ok (record { members = members; script = s });
@@ -112,7 +112,7 @@ module _ {I O : Type 0} (i : Inputs.Ghosts I) (o : Sink.Ghosts O) (object : Obje
     touched = tt;
   }
 
-  -- where it is done the script came to its end
+  -- on Done the script came to its end
   pub compare_ended : (s : Script) (members : List Member) → (i.observable → script_in (i.state old) name ≡ Some s) → (result ≡ exit.ReadFault → Rose (i.state old).faults (i.state new).faults) → IsReach (objects_in object (attached_by s.events)) t m members → Reports o (isolate_report (setup_for object t s.events) m members (ran s)) sink sink' result → i.observable → result ≡ exit.Done → s.stop ≡ AtEnd
   compare_ended s members read fails reach reports seen done =
       (scripts.held_whole i o script_of_job (comparison_report object t m) (of_script object t m) name old new sink sink' result (IsComparisonOf i object t m name old new result) script_asked TouchesNothing (compare_ran s members read fails reach reports) s refl seen done).0

@@ -42,14 +42,14 @@ done_is_read : exit.Done ≡ exit.ReadFault → ⊥
 done_is_read e = cc
 
 module _ {O : Type 0} (o : Sink.Ghosts O) (object : Object) (t : Topology) (m : NodeId) (name : List ℕ) (old new : Moment) (sink sink' : O) (result : Exit) where
-  -- memory was wanted
+  -- memory ran out
   pub ran_starved : (calls : List Call) → Reports o (refusal Memory) sink sink' result → RanGiven o object t m name old new sink sink' result calls
   ran_starved calls reports = (
     compare_starved shown o object t m name (giving script_limit calls old) new sink sink' result reports,
     λ done. absurd (done_is_memory (sym done ∙ refused o Memory sink sink' result reports)),
   )
 
-  -- the script could not be begun
+  -- the script couldn't be opened
   pub ran_unbegun : Rose old.faults new.faults → Reports o (refusal Read) sink sink' result → RanGiven o object t m name old new sink sink' result (Begin name None ∷ [])
   ran_unbegun rose reports = (
     compare_unbegun shown o object t m name (giving script_limit (Begin name None ∷ []) old) new sink sink' result (λ seen. refl) rose reports,

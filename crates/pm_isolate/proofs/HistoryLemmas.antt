@@ -1,4 +1,4 @@
--- A history is what its transitions say: two of them differ somewhere exactly where their transitions do.
+-- A history follows from its transitions: two histories differ somewhere exactly if their transitions do.
 use Rattle.std.proofs.Common.{◌≡◌, ◌≢◌, ℕ, ◌+◌, ◌<◌, ◌==◌, ◌&&◌, ◌||◌, Bool, true, false, not, if◌then◌else◌, List, [], ◌∷◌, length, refl, sym, ◌∙◌, ap, subst, arith}
 use Rattle.std.proofs.lemmas.Bool.Decides.{Decides-eqb}
 use Rattle.pm_base.specs.declared.names.Unit.{Unit}

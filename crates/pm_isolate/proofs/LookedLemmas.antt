@@ -1,4 +1,4 @@
--- After a line it is enough to look at the units that moved, and at the processors where a mode may have changed.
+-- After a line it is enough to look at the units that moved, and at the processors if a mode may have changed.
 use Rattle.std.proofs.Common.{◌≡◌, ℕ, ◌+◌, ◌==◌, ◌||◌, ◌++◌, Bool, true, false, not, cond, List, [], ◌∷◌, Option, Some, None, refl, sym, ◌∙◌, ap, subst, arith}
 use Rattle.std.specs.Prelude.{is_some, slice_get}
 use Rattle.std.specs.Option.{option_map}
@@ -90,11 +90,11 @@ marked_first book = record { fixed = refl; units = units_all (units book); shows
 -- ---- a line
 
 module _ (laws : TablePlaceLaws Bool) (a b a' b' : State) (marks : Marks) (m : Logged) (procs : List ℕ) where
-  -- the processors stay in both books where it isn't logged that a mode may have changed
+  -- the processors stay in both books if no change of a mode is logged
   abbrev KeepBoth : Type 0
   KeepBoth = m.modes ≡ false → KeepsProcs a a' × KeepsProcs b b'
 
-  -- the processors are looked at where a mode may have changed
+  -- the processors are looked at if a mode may have changed
   abbrev turned : List ℕ
   turned = cond m.modes procs []
 

@@ -49,7 +49,7 @@ mapped_marked : (f : Unit → Bool → Bool) (g : Unit → Bool) (units : List U
 mapped_marked f g [] = refl
 mapped_marked f g (u ∷ us) = ap (λ (rest : Marks). (u, f u (g u)) ∷ rest) (mapped_marked f g us)
 
--- whether a unit was found to differ after some lines, where this was known of it before them
+-- whether a unit was found to differ after some lines, by what was found before them
 abbrev pub apart : NodeId → List Event → Stand → Stand → Unit → Bool → Bool
 apart m [] a b u before = before
 apart m (e ∷ es) a b u before =
@@ -97,7 +97,7 @@ as_long : (c : Setup) (m : NodeId) (es : List Event) (a b : Stand) (u : Unit) �
 as_long c m [] a b u = refl
 as_long c m (e ∷ es) a b u = ap suc (as_long c m es (line_of c e a).after (line_of c (quiet_event m e) b).after u)
 
--- a unit differs in the two runs where it was found to differ over the lines from the load on
+-- a unit differs in the two runs if it was found to differ over the lines from the load on
 differs_apart : (c : Setup) (m : NodeId) (es : List Event) (u : Unit) → apart m es (loaded c) (loaded c) u false ≡ differs (run c es) (run c (quiet m es)) u
 differs_apart c m es u =
     let load : Stand = loaded c in

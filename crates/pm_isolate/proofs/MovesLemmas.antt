@@ -1,4 +1,4 @@
--- A unit at a place that isn't logged keeps its value, and the processors stay where it isn't logged that a mode may have changed.
+-- A unit at a place that isn't logged keeps its value, and the processors stay if no change of a mode is logged.
 use Rattle.std.proofs.Common.{◌≡◌, ℕ, ◌==◌, ◌||◌, ◌++◌, Bool, true, false, not, cond, nat_lt, List, [], ◌∷◌, Option, Some, None, length, zero, suc, refl, sym, ◌∙◌, ap, subst}
 use Rattle.std.specs.Prelude.{filter, slice_get}
 use Rattle.pm_base.specs.declared.events.Event.{Event}
@@ -12,10 +12,10 @@ use Rattle.pm_state.specs.State.{State}
 use Rattle.pm_state.specs.Units.{moved, units}
 use Rattle.pm_state.specs.Values.{value}
 use Rattle.pm_step.proofs.Refused.{pass_stays}
-use Rattle.pm_core.specs.Step.{effect}
+use Rattle.pm_core.specs.Step.{effect, turns_proc}
 use Rattle.pm_run.specs.Run.{Stand, book_after}
 use Rattle.pm_isolate.specs.Marks.{Marks, has_place}
-use Rattle.pm_isolate.specs.Moves.{Logged, is_logged, line_moves, logged_along, may_turn, with_event, with_place, with_place_of, with_step, with_unit, with_units}
+use Rattle.pm_isolate.specs.Moves.{Logged, is_logged, line_moves, logged_along, with_place, with_place_of, with_step, with_turn, with_unit, with_units}
 use Rattle.pm_isolate.proofs.HistoryLemmas.{clash, not_false, one}
 use Rattle.pm_isolate.proofs.PlacesLemmas.{neither_place, place_there, unit_there}
 use Rattle.pm_isolate.proofs.TurnsLaw.{KeepsProcs, event_keeps}
@@ -90,7 +90,7 @@ pub unmoved : (marks : Marks) (events : List Event) (book : State) (m : Logged) 
 unmoved marks [] book m k e rising all at none = (none, refl)
 unmoved marks (event ∷ events) book m k e rising all at none =
     let rest = unmoved marks events (effect event book) (with_step marks event book (effect event book) m) k e rising all at none in
-    let first = unmoved_step marks book (effect event book) (with_event event m) k e rising all at rest.0 in
+    let first = unmoved_step marks book (effect event book) (with_turn (turns_proc event book) m) k e rising all at rest.0 in
     (first.0, rest.1 ∙ first.1)
 
 -- ---- the processors stay
@@ -111,8 +111,8 @@ pub unturned : (marks : Marks) (events : List Event) (book : State) (m : Logged)
 unturned marks [] book m none = (none, refl)
 unturned marks (event ∷ events) book m none =
     let rest = unturned marks events (effect event book) (with_step marks event book (effect event book) m) none in
-    let now : (m.modes || may_turn event) ≡ false = sym (units_modes marks (moved (λ u. value u book) (effect event book)) (with_event event m)) ∙ rest.0 in
-    let parts = neither m.modes (may_turn event) now in
+    let now : (m.modes || turns_proc event book) ≡ false = sym (units_modes marks (moved (λ u. value u book) (effect event book)) (with_turn (turns_proc event book) m)) ∙ rest.0 in
+    let parts = neither m.modes (turns_proc event book) now in
     (parts.0, rest.1 ∙ event_keeps event book parts.1)
 
 -- ---- an event of which nothing comes
@@ -131,6 +131,6 @@ or_false false = refl
 pub pass_logs : (marks : Marks) (stand : Stand) (m : Logged) → line_moves marks Pass stand m ≡ m
 pass_logs marks stand m =
     let book : State = stand.book in
-    ap (λ (b : State). with_units marks (moved (λ u. value u book) b) (with_event Pass m)) (pass_stays book)
-    ∙ ap (λ (us : List Unit). with_units marks us (with_event Pass m)) (none_moved book (units book))
+    ap (λ (b : State). with_units marks (moved (λ u. value u book) b) (with_turn (turns_proc Pass book) m)) (pass_stays book)
+    ∙ ap (λ (us : List Unit). with_units marks us (with_turn (turns_proc Pass book) m)) (none_moved book (units book))
     ∙ ap (λ (modes : Bool). record m { modes = modes }) (or_false m.modes)

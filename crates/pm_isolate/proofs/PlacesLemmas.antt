@@ -74,7 +74,7 @@ module _ (laws : TablePlaceLaws Bool) (f : Unit → Bool → Bool) (twice : (u :
       join false true o = refl
       join false false o = refl
 
-  -- where all other marks would stay the same, they are all made anew
+  -- if all other marks would stay the same, all marks are found anew
   pub renewed_all : (places : List ℕ) (marks : Marks) → ((k : ℕ) (e : Unit × Bool) → slice_get marks k ≡ Some e → has_place places k ≡ false → f e.0 e.1 ≡ e.1) → renewed_along f places marks ≡ mapped f marks
   renewed_all places marks still = ext (renewed_along f places marks) (mapped f marks) (λ k. get_along places marks k ∙ by k (slice_get marks k) refl (has_place places k) refl ∙ sym (slice_get-map (remade f) marks k))
     where

@@ -28,7 +28,7 @@ exit-behind piece r (Some k) =
     same : (k n : ℕ) → nat_lt (1 + k) (suc n) ≡ nat_lt k n
     same k n = grind (arith, nat_tests)
 
--- where an element stands once each is changed
+-- the element at a place after each is changed
 pub slice_get-map : {X Y : Type 0} (f : X → Y) (xs : List X) (k : ℕ) (x : X) → slice_get xs k ≡ Some x → slice_get (map f xs) k ≡ Some (f x)
 slice_get-map f [] k x is = cc
 slice_get-map f (y ∷ ys) zero x is = let same : y ≡ x = cc in ap (λ z. Some (f z)) same

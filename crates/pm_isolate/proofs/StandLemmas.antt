@@ -13,7 +13,7 @@ use Rattle.pm_split.specs.Left.{boxes_left, events_left}
 use Rattle.pm_run.specs.Run.{Stand, book_after, setup_of, split}
 use Rattle.pm_isolate.specs.Within.{is_own, line_after}
 
--- the book and the boxes are all that a run stands at
+-- the book and the boxes are the whole state of a run
 pub stand_is : (a b : Stand) → a.book ≡ b.book → a.boxes ≡ b.boxes → a ≡ b
 stand_is a b book boxes =
     ap (λ (s : State). record { book = s; boxes = a.boxes }) book ∙ ap (λ (bs : Boxes). record { book = b.book; boxes = bs }) boxes
@@ -31,7 +31,7 @@ pub record IsUnderWay (event : Event) (left : CoreEvents) (start now : Stand) : 
   pub book : book_after (events_left start.book.fixed.object start.book.fixed.topology now.boxes left) now.book ≡ (line_after event start).book
   pub boxes : boxes_left now.boxes left ≡ (line_after event start).boxes
 
--- those that are left after one was taken off, where the run stands after it
+-- the core events that are left after one was taken off, from the state of the run after it
 pub next_left : (core : Event) (left rest : CoreEvents) (start now taken then : Stand) → now.book.fixed ≡ start.book.fixed
     → events_left now.book.fixed.object now.book.fixed.topology now.boxes left ≡ core ∷ events_left now.book.fixed.object now.book.fixed.topology taken.boxes rest
     → then.boxes ≡ taken.boxes
@@ -77,6 +77,6 @@ same_fixed (event ∷ events) book = same_fixed events (effect event book)
 pub fixed_on : (event : Event) (stand : Stand) → (line_after event stand).book.fixed ≡ stand.book.fixed
 fixed_on event stand = same_fixed (split (setup_of stand.book) event stand).events stand.book
 
--- a run stands where it stood after an event of which nothing comes
+-- the state of a run is unchanged by a Pass
 pub pass_stands : (stand : Stand) → line_after Pass stand ≡ stand
 pass_stands stand = stand_is (line_after Pass stand) stand (pass_stays stand.book) refl

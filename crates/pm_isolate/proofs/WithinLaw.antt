@@ -157,7 +157,7 @@ module _ (laws : ReachLaws) (fixed : Fixed) (m : NodeId) (found : List Member) (
       in_found members.Power node.0 (power_listed laws.units object others t reach.from reach.routes reach.least (Node node) there (subst (λ (n : NodeId). IsIn (object ∷ others) t reach.from members.Power (Node n)) (named entry.0.node node entry.2) inside))
   kind_listed node Unknown is there not = let clash : true ≡ false = not in absurd cc
 
-  -- a reset line that isn't beyond stands at a place of the table, and what stands there is that line
+  -- a reset line that isn't beyond is at a place of the table
   line_listed_at : (line : LineId) (at : Option ℕ) → line_place t.lines line.0 ≡ at → has_unit t (Line line) ≡ true → line_beyond border at ≡ false → HasMember found members.Line line.0
   line_listed_at line None is there not = let clash : true ≡ false = not in absurd cc
   line_listed_at line (Some k) is there not =

@@ -1,4 +1,4 @@
--- What a comparison of the two runs of a named script did, on every exit, and what Done means.
+-- The effects of the comparison of a named script's two runs, on every exit, and the promises of Done.
 use Rattle.std.specs.Prelude.{◌≡◌, ℕ, Bool, List, ◌++◌, Option, Result, Ok, Err, IfOk, ⊤}
 use Rattle.pm_base.specs.declared.errors.Exit.{Exit}
 use Rattle.pm_base.specs.declared.errors.Exit.TheVariants.{Done, ReadFault}
@@ -28,24 +28,24 @@ use Rattle.pm_trace.specs.Scripts.{IsScriptOf, ReadsScript, script_exit, script_
 use Rattle.pm_isolate.specs.Differences.{isolate_report, isolate_text}
 use Rattle.pm_isolate.specs.Listed.{AreListed}
 
--- what is compared: the members of the reach, and a script that can be begun
+-- the job of a comparison: the members of the reach, and a script that can be opened
 pub record Comparison : Type 0 where
   pub members : List Member
   pub script : Script
 
--- the script of a comparison, or the same refusal
+-- the script of a comparison, or the fault that refuses it
 abbrev pub script_of_job : Result Comparison Fault → Result Script Fault
 script_of_job (Ok job) = Ok job.script
 script_of_job (Err fault) = Err fault
 
--- what is written of it. No device answers
+-- the report of a comparison; no device answers
 abbrev pub comparison_report : Object → Topology → NodeId → Comparison → List (List Bool) → Report
 comparison_report object t m job answers =
     isolate_report (setup_for object t job.script.events) m job.members (ran job.script)
 
 module _ {I : Type 0} (i : Inputs.Ghosts I) where
-  -- the script is the one that is read under the name, unless memory is wanted, and the members are those of the reach of
-  -- the master, by the loaded object and by each one that the script's first lines attach which can be put in force
+  -- the script is the one under the name, unless memory runs out. The members are those of the master's reach, by the
+  -- loaded object and each object that the script's block attaches and that can be put in force
   pub record IsComparisonOf (object : Object) (t : Topology) (m : NodeId) (name : List ℕ) (old new : I) (exit : Exit) (job : Result Comparison Fault) : Type 0 where
     pub script : IsScriptOf i name old new exit (script_of_job job)
     pub reach : IfOk job (λ job. IsReach (objects_in object (attached_by job.script.events)) t m job.members)
@@ -55,14 +55,14 @@ abbrev pub TouchesNothing : Result Comparison Fault → List (List Bool) → Opt
 TouchesNothing job answers cut = ⊤
 
 module _ {I O : Type 0} (i : Inputs.Ghosts I) (o : Sink.Ghosts O) where
-  -- on every exit: what was asked for, and what was written of it
+  -- on every exit: what was asked for, and how much of it was written
   abbrev pub Compared : Object → Topology → NodeId → List ℕ → I → I → O → O → Exit → Type 0
   Compared object t m name old new sink sink' exit =
       Did o (IsComparisonOf i object t m name old new exit) (comparison_report object t m) TouchesNothing sink sink' exit
 
-  -- a script was held under the name, and what was written is the reach of the master, a line for each unit whose
-  -- transitions differ between the run of that script and the run without the messages of the master, and the number of its
-  -- lines. Each such unit is in that reach, or a processor of a master that is
+  -- a script was held under the name. The text is the reach of the master, a line for each unit whose transitions
+  -- differ between the run of that script and the run without the messages of the master, and the number of its
+  -- lines. Each such unit is in that reach, or is a processor of a master that is
   pub record IsCompared (object : Object) (t : Topology) (m : NodeId) (name : List ℕ) (old : I) (sink sink' : O) : Type 0 where
     pub script_bytes : List ℕ
     pub events : List Event
@@ -74,8 +74,8 @@ module _ {I O : Type 0} (i : Inputs.Ghosts I) (o : Sink.Ghosts O) where
     pub listed : AreListed (setup_for object t events) m members (passed events)
 
 module _ {O : Type 0} (o : Sink.Ghosts O) where
-  -- these calls were made to read the script, and what was asked for is what they gave, of whichever source: on Done a script that they
-  -- gave whole was compared, and by what they gave the exit is decided
+  -- these calls read the script, from any source, and what they gave was asked for. On Done they gave a whole script,
+  -- which was compared. The exit follows from what they gave
   pub record ComparedGiven (object : Object) (t : Topology) (m : NodeId) (name : List ℕ) (calls : List Call) (old new : Moment)
       (sink sink' : O) (exit : Exit) : Type 0 where
     pub reads : ReadsScript exit (script_named name) calls

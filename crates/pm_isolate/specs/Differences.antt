@@ -1,4 +1,4 @@
--- What is written of the differences between two runs: a line for each unit that differs, and the number of script lines.
+-- The text of the differences between two runs: a line for each unit that differs, and the number of script lines.
 use Rattle.std.specs.Prelude.{ℕ, ◌+◌, List, [], ◌∷◌, ◌++◌, codes, filter, length}
 use Rattle.std.specs.List.{flat_map}
 use Rattle.pm_base.specs.declared.events.Event.{Event}
@@ -23,7 +23,7 @@ use Rattle.pm_isolate.specs.Transitions.{differs}
 abbrev pub differing : Setup → NodeId → List Event → List Unit
 differing c m events = filter (differs (run c events) (run c (quiet m events))) (units_of c.topology)
 
--- the line of a unit that differs: what it is, and its number
+-- the line of a unit that differs: its sort and its number
 abbrev pub difference_line : Topology → Unit → List ℕ
 difference_line t unit = line_text (word.Name (codes "differ") ∷ unit_name t unit)
 
@@ -39,7 +39,8 @@ differences c m events = flat_map (difference_line c.topology) (differing c m ev
 abbrev pub isolate_text : Setup → NodeId → List Member → List Event → List ℕ
 isolate_text c m members events = reach_text members ++ differences c m events
 
--- what is written for the members of a reach and a script that can be begun: the differences where the script came to its end
+-- the report for the members of a reach and a script that can be opened: the differences come if the script came to
+-- its end
 abbrev pub isolate_report : Setup → NodeId → List Member → Script → Report
 isolate_report c m members s = record {
   body = reach_text members ∷ at_end s.stop (differences c m s.events);

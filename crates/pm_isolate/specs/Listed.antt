@@ -1,4 +1,4 @@
--- What is listed in a reach: its members, and the processors of its masters.
+-- The units that a reach lists: its members, and the processors of its masters.
 use Rattle.std.specs.Prelude.{◌≡◌, ℕ, List, Some, slice_get, [], ◌∷◌}
 use Rattle.std.specs.List.{AllByRecursion as Each}
 use Rattle.pm_base.specs.declared.events.Event.{Event}
@@ -44,6 +44,6 @@ abbrev pub IsListed : Object → Topology → List Member → Unit → Type 0
 IsListed object t found (Node node) = IsKindListed object t found (kind_of t node) node.0
 IsListed object t found (Line line) = HasMember found members.Line line.0
 
--- each unit that differs between the run of these events and the run without the messages of a master is so listed
+-- each unit that differs between the run of these events and the run without the messages of a master is listed so
 abbrev pub AreListed : Setup → NodeId → List Member → List Event → Type 0
 AreListed c m found events = Each (IsListed c.object c.topology found) (differing c m events)

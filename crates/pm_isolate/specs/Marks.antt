@@ -1,4 +1,4 @@
--- The marks of the units: for each unit whether it was found to differ. Some of them are made anew, place by place.
+-- The marks of the units: for each unit whether it was found to differ. Some of them are found anew, place by place.
 use Rattle.std.specs.Prelude.{ℕ, ◌+◌, ◌==◌, Bool, false, if◌then◌else◌, List, [], ◌∷◌, fold, slice_get, Option, None, Some, is_some}
 use Rattle.std.specs.List.{list_any}
 use Rattle.pm_base.specs.declared.names.Unit.{Unit}
@@ -11,7 +11,7 @@ use Rattle.pm_topology.specs.UnitMap.{with_value_at}
 abbrev pub Marks : Type 0
 Marks = List (Unit × Bool)
 
--- the mark at a place is made anew, where there is one
+-- the mark at a place is found anew, if there is one
 abbrev pub renewed : (Unit → Bool → Bool) → ℕ → Option (Unit × Bool) → Marks → Marks
 renewed f place None marks = marks
 renewed f place (Some mark) marks = with_value_at place (f mark.0 mark.1) marks
@@ -19,7 +19,7 @@ renewed f place (Some mark) marks = with_value_at place (f mark.0 mark.1) marks
 abbrev pub renewed_at : (Unit → Bool → Bool) → Marks → ℕ → Marks
 renewed_at f marks place = renewed f place (slice_get marks place) marks
 
--- so are those at these places, one after another
+-- the marks at these places are found anew, one after another
 abbrev pub renewed_along : (Unit → Bool → Bool) → List ℕ → Marks → Marks
 renewed_along f places marks = fold (renewed_at f) marks places
 
@@ -32,7 +32,7 @@ abbrev pub is_proc : Topology → Unit → Bool
 is_proc t (Node node) = is_some (proc_of (kind_of t node))
 is_proc t (Line line) = false
 
--- the places of the processors among these units, the first of which stands at place k
+-- the places of the processors among these units, the first of which is at place k
 abbrev pub proc_places : Topology → ℕ → List Unit → List ℕ
 proc_places t k [] = []
 proc_places t k (unit ∷ units) = if is_proc t unit then k ∷ proc_places t (k + 1) units else proc_places t (k + 1) units

@@ -1,4 +1,4 @@
--- Two runs side by side: where both stand, and for each unit whether it was found to differ.
+-- Two runs side by side: the state of both, and for each unit whether it was found to differ.
 use Rattle.std.specs.Prelude.{◌≡◌, ℕ, Bool, false, Some, slice_get}
 use Rattle.pm_base.specs.declared.names.Unit.{Unit}
 use Rattle.pm_topology.specs.UnitMap.{units_in}
@@ -14,8 +14,8 @@ pub record Sides : Type 0 where
   pub quiet : Stand
   pub differs : Marks
 
--- two books have one object and one chip, each unit of the chip has its mark, and one that wasn't found to differ shows the
--- same in both
+-- two books have one object and one chip, each unit of the chip has its mark, and an unmarked one shows the same in
+-- both
 pub record AreMarked (a b : State) (marks : Marks) : Type 0 where
   pub fixed : b.fixed ≡ a.fixed
   pub units : units_in marks ≡ units a

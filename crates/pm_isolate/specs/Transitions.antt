@@ -4,12 +4,11 @@ use Rattle.pm_base.specs.declared.names.Unit.{Unit}
 use Rattle.pm_state.specs.Values.{shown}
 use Rattle.pm_run.specs.Run.{Line}
 
--- the history of a unit: what it shows after each of these script lines, of a processor the number of its mode, and of any other
--- unit its value
+-- the history of a unit: after each of these script lines the number of its mode if it is a processor, else its value
 abbrev pub history : Unit → List Line → List ℕ
 history unit lines = map (λ (line : Line). shown unit line.after.book) lines
 
--- a step after which a unit shows another value than before it
+-- a step after which a unit shows another number than before it
 pub record Transition : Type 0 where
   pub step : ℕ
   pub before : ℕ
@@ -26,7 +25,7 @@ changes n before (value ∷ later) =
 abbrev pub transitions : Unit → List Line → List Transition
 transitions unit lines = changes 0 0 (history unit lines)
 
--- two transitions are one, and two lists of them are the same
+-- two transitions are equal; two lists of them are
 abbrev pub same_transition : Transition → Transition → Bool
 same_transition a b = (a.step == b.step) && ((a.before == b.before) && (a.after == b.after))
 
@@ -36,6 +35,6 @@ same_transitions [] (b ∷ ys) = false
 same_transitions (a ∷ xs) [] = false
 same_transitions (a ∷ xs) (b ∷ ys) = same_transition a b && same_transitions xs ys
 
--- a unit differs in two runs where its transitions do
+-- a unit differs in two runs if its transitions do
 abbrev pub differs : List Line → List Line → Unit → Bool
 differs first second unit = not (same_transitions (transitions unit first) (transitions unit second))

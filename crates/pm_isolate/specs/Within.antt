@@ -1,4 +1,4 @@
--- What the parts of a comparison do. No user of this crate speaks of these words.
+-- The effects of the parts of a comparison. No user of this crate speaks of these words.
 use Rattle.std.specs.Prelude.{◌≡◌, ℕ, ◌+◌, ◌==◌, ◌||◌, not, Bool, true, false, if◌then◌else◌, List, [], ◌∷◌, ◌++◌, length, map, Result, Ok, Err, ⊤}
 use Rattle.std.specs.List.{concat}
 use Rattle.pm_base.specs.declared.errors.Exit.{Exit}
@@ -51,17 +51,17 @@ has_differed a b unit before = before || not (shown unit a == shown unit b)
 abbrev pub compared : State → State → Marks → Marks
 compared a b marks = mapped (has_differed a b) marks
 
--- after the units at these places alone are compared
+-- the marks after only the units at these places are compared
 abbrev pub compared_along : State → State → List ℕ → Marks → Marks
 compared_along a b places marks = renewed_along (has_differed a b) places marks
 
--- after the units at the places that were logged are compared, and those at these if a mode may have changed, or all units if
--- all places were logged
+-- the marks after the units at the logged places are compared, and those at the given places if a mode may have
+-- changed; or all units, if all places are logged
 abbrev pub looked : State → State → Logged → List ℕ → Marks → Marks
 looked a b m procs marks =
     if m.all then compared a b marks else compared_along a b (if m.modes then procs else []) (compared_along a b m.places.items marks)
 
--- both runs at load, which show the same
+-- both runs at load, with equal books
 abbrev pub begun : Setup → Sides
 begun c = record {
   loud = loaded c;
@@ -69,7 +69,7 @@ begun c = record {
   differs = all_at false (units_of c.topology);
 }
 
--- where a run stands after a script line, whose core events are carried out one after another
+-- the state of a run after a script line, whose core events are carried out one after another
 abbrev pub line_after : Event → Stand → Stand
 line_after event stand = (line_of (setup_of stand.book) event stand).after
 
@@ -81,7 +81,7 @@ is_own Serve = false
 is_own (Smc proc function args) = false
 is_own event = true
 
--- one more line in both, but for a message of the master, which is left out of the quiet one
+-- one more line in both runs; in the quiet one nothing in place of a message of the master
 abbrev pub stepped : NodeId → Event → Sides → Sides
 stepped m event w = record {
   loud = line_after event w.loud;
@@ -94,14 +94,14 @@ abbrev pub after : NodeId → List Event → Sides → Sides
 after m [] w = w
 after m (event ∷ events) w = after m events (stepped m event w)
 
--- a text is that of the reach of a master, where each permission is given by at least one of these objects
+-- this is the text of the reach of a master, by the permissions of at least one of these objects
 pub record IsReachText (objects : List Object) (t : Topology) (m : NodeId) (text : List ℕ) : Type 0 where
   pub members : List Member
   pub reach : IsReach objects t m members
   pub is : text ≡ reach_text members
 
--- the front of a script was read ahead, both books are as at load with what it attaches, and the text of the reach of the
--- master is there, by all objects of the run
+-- a script's block was read, both books are at load with what it attaches, and the text of the master's reach is
+-- ready, by all objects of the run
 pub record IsPrepared (shown : Type 0) (id : ℕ) (ahead : Ahead) (now : Moment) (c : Setup) (m : NodeId) (p : Prepared) : Type 0 where
   pub members : List Member
   pub reach : IsReach (objects_in c.object c.attached) c.topology m members
@@ -110,14 +110,14 @@ pub record IsPrepared (shown : Type 0) (id : ℕ) (ahead : Ahead) (now : Moment)
   pub attached : c.attached ≡ ahead.attached
   pub front : Attaches shown id ahead now p.front
 
--- what a watcher does for a line: it steps both books by its event, and watches what it watched
+-- a watcher steps both books by the event of a line, and goes on with them
 pub record Watches (n : ℕ) (event : Event) (old new : Watcher) (result : Result ⊤ Failed) : Type 0 where
   pub worlds : new.worlds.now ≡ stepped old.m event old.worlds.now
   pub m : new.m ≡ old.m
   pub same : new.worlds.ghost_name ≡ old.worlds.ghost_name
   pub ok : result ≡ Ok tt
 
--- how lines end: all were carried out, or one has no meaning
+-- the end of lines: all were carried out, or one can't be read
 abbrev pub RanLines : NodeId → Script → Sides → Sides → Result reader.LinesEnd LineStop → Type 0
 RanLines m s now last (Ok end) = (s.stop ≡ stop_of end.stop) × (last ≡ after m s.events now) × (end.count ≡ length s.events)
 RanLines m s now last (Err (stops.Bad n cause)) = (s.stop ≡ Bad cause) × (n ≡ 1 + length s.events)
@@ -130,15 +130,15 @@ mark_line t mark = if mark.1 then difference_line t mark.0 else []
 abbrev pub mark_lines : Sides → List (List ℕ)
 mark_lines w = map (mark_line w.loud.book.fixed.topology) w.differs
 
--- what is written at the end of so many script lines
+-- the text after so many script lines
 abbrev pub end_text : Sides → ℕ → List ℕ
 end_text w count = concat (mark_lines w) ++ steps_line count
 
--- what is written after the last line of a script that came to its end or could not be read on
+-- the report after the last line of a script that came to its end or couldn't be read on
 abbrev pub end_report : Stop → Sides → ℕ → Report
 end_report stop w count = record { body = at_end stop (end_text w count); fault = fault_at 0 stop }
 
--- what is written of the lines of a script, and after them
+-- the report of the lines of a script and of what follows them
 abbrev pub rest_report : NodeId → Script → Sides → Report
 rest_report m s w = record {
   body = at_end s.stop (end_text (after m s.events w) (length s.events));
@@ -149,13 +149,13 @@ rest_report m s w = record {
 abbrev pub report_behind : List ℕ → Report → Report
 report_behind piece r = record { body = piece ∷ r.body; fault = r.fault }
 
--- a piece was written, by the result
+-- a piece was written if the result is Ok, and broke off if it isn't
 module _ {O : Type 0} (o : Sink.Ghosts O) where
   abbrev pub Writes : List ℕ → O → O → Result ⊤ Failed → Type 0
   Writes piece old new (Ok nothing) = Wrote o.observable piece (o.state old) (o.state new)
   Writes piece old new (Err error) = BreaksIn o 0 (piece ∷ []) old new
 
-  -- by what these calls gave of the script: what was asked for and written, and on Done they came to the end
+  -- by what these calls gave of the script: what was asked for and how much was written; on Done they came to the end
   abbrev pub RanGiven : Object → Topology → NodeId → List ℕ → Moment → Moment → O → O → Exit → List Call → Type 0
   RanGiven object t m name old new sink sink' result calls =
       Compared shows_calls o object t m name (giving script_limit calls old) new sink sink' result

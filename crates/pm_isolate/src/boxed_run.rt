@@ -16,8 +16,7 @@ use pm_topology::{Topology, UnitMap};
 use std::alloc::Global;
 use std::marker::Model;
 
-/// A runner on the heap, since the struct is large. Contracts see where the run stands: its book
-/// and its boxes.
+/// A runner on the heap, since the struct is large. Contracts see the state of its run: the book and the boxes.
 #[derive(Drop)]
 pub struct BoxedRun {
     runner: Box<Runner>,
@@ -32,11 +31,11 @@ impl Model for BoxedRun {
 }
 
 impl BoxedRun {
-    /// The book of an object at load.
+    /// A runner at load, for an object, the attached objects and a chip.
     ///
     /// # Errors
     ///
-    /// `NoMemory` where there is not enough memory.
+    /// `NoMemory` if there is not enough memory.
     pub fn load(
         alloc: Global,
         object: Object,
@@ -57,7 +56,7 @@ impl BoxedRun {
         &self.runner.book
     }
 
-    /// Splits the event of a script line. Its core events are taken by `next`.
+    /// Splits the event of a script line into core events. `next` takes these one after another.
     pub fn split<'e>(&mut self, event: &'e Event) -> Split<'e>
         ensures book { self.new.book ≡ self.old.book }
         ensures events { events_left self.old.book.fixed.object self.old.book.fixed.topology self.new.boxes result.cores
@@ -68,7 +67,7 @@ impl BoxedRun {
         self.runner.split(event)
     }
 
-    /// Takes the next core event of a line off, if there is one; one that is made is left in `made`.
+    /// The next core event of a line, or None at its end. An event that isn't the line's own is left in `made`.
     pub fn next<'e>(&mut self, cores: &mut CoreEvents<'e>, made: &mut Event) -> Option<Source<'e>>
         ensures book { self.new.book ≡ self.old.book }
         ensures events { MatchOption result
@@ -83,7 +82,8 @@ impl BoxedRun {
         self.runner.next(cores, made)
     }
 
-    /// One core event. It is logged with the places of the units whose value it changes.
+    /// Steps the book by one core event. The places of the units whose values change are logged in `moves`, and so is
+    /// whether a processor went to a mode.
     pub fn step(&mut self, event: &Event, marks: &UnitMap<bool>, moves: &mut Moves)
         ensures book { self.new.book ≡ effect event.now self.old.book }
         ensures boxes { self.new.boxes ≡ self.old.boxes }
@@ -91,12 +91,12 @@ impl BoxedRun {
             ≡ with_step marks.now event.now self.old.book (effect event.now self.old.book) moves.old }
     {
         self.runner.step(event);
-        moves.add_event(event);
+        moves.add_turn(self.runner.outbox.turned);
         moves.add_units(marks, self.runner.outbox.moved.as_slice());
     }
 }
 
-/// The book of an object at load, its outbox and its boxes, on the heap.
+/// A runner at load, in a box. Fails with `NoMemory` if there is not enough memory.
 fn runner_of(
     alloc: Global,
     object: Object,
@@ -111,7 +111,8 @@ fn runner_of(
     boxed(alloc, runner)
 }
 
-/// A value on the heap. It is dropped, where there is not enough memory, at a type that is any.
+/// A value on the heap. Without enough memory it is dropped here, where its type is generic: that costs less to
+/// prove.
 fn boxed<T: Drop>(alloc: Global, value: T) -> Result<Box<T>, NoMemory>
     ensures { IfOk result (λ held. held.value ≡ value) }
 {

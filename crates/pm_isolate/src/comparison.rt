@@ -1,4 +1,4 @@
-//! The run of a script is compared with the run without the messages of a master.
+//! The comparison of a script's run with the run without the messages of a master.
 
 ghost use Rattle.std.specs.Prelude.{◌≡◌, ◌≢◌, ◌==◌, ◌⊎◌, List as Sequence, IfErr, IfOk, IsTrue};
 ghost use Rattle.std.specs.List.{list_any};
@@ -44,14 +44,15 @@ use pm_trace::{Fault, reach_text, refuse};
 use std::alloc::Global;
 use std::mem::drop;
 
-/// Compares the run of the named script over an object with the run without the messages of the master
-/// `m`, in place of each of which nothing happens. Writes the reach of the master; then each line is run in
-/// both books; then comes a line for each unit whose transitions differ, and the number of script lines; or
-/// the fault line of the answer. Where the script can't be begun nothing stands before that. After both
-/// loads nothing takes memory, so want of memory comes before the first byte of output. No device
-/// occurs in it. That `m` is a master of the object is tested by `has_key`.
+/// Compares the run of the named script over an object with the run without the messages of the master `m`. In the
+/// second run nothing happens in place of each such message. No device is involved.
 ///
-/// Answers Done, BadLine, ReadFault, WriteFault, Memory and TooLarge.
+/// First the reach of the master is written. Then each line is run in both books. Last come a line for each unit
+/// whose transitions differ, and the number of script lines; or the fault line of the exit. If the script can't be
+/// opened there is only the fault line. Nothing takes memory after both loads, so that want of memory comes before
+/// the first byte of output. `m` has to be a master of the object, which `has_key` tests.
+///
+/// Returns Done, BadLine, ReadFault, WriteFault, Memory or TooLarge.
 pub fn compare<I: Inputs, O: Sink>(
     alloc: Global,
     object: Object,
@@ -64,36 +65,36 @@ pub fn compare<I: Inputs, O: Sink>(
     requires object { IsObject object }
     requires formed { IsWellFormed topology }
     requires named { IsTrue (list_any (λ r. r.node == m.0) object.masters) }
-    // On Done the input held a script under the name, and the whole text was written: the reach of the
-    // master, the units whose transitions differ in the two runs, and the number of script lines. Each of these
-    // units is in that reach, or a processor of a master that is.
+    // On Done the input held a script under the name, and the whole text was written: the reach of the master, the
+    // units whose transitions differ in the two runs, and the number of script lines. Each of these units is in that
+    // reach, or is a processor of a master that is.
     ensures done { I.observable → O.observable → result ≡ Exit.Done
         → IsCompared I.Inputs O.Sink object topology m script.now inputs.old out.old out.new }
-    // What the input holds decides the exit, unless memory is wanted or the sink fails.
+    // The exit follows from what the input holds, unless memory runs out or the sink fails.
     ensures decided { I.observable
         → EndsWith O.Sink (script_exit (script_or_fault
         (script_in (I.state inputs.old) script.now))) out.old out.new result }
-    // And of any input so of what the reads of the script gave: on Done they gave a script whole, which was compared,
-    // and what they gave decides the exit.
+    // For any input, it follows from what the reads of the script gave: on Done they gave a whole script, which was
+    // compared.
     ensures given { Meanwhile (I.state inputs.old) (I.state inputs.new) (λ calls. ComparedGiven O.Sink object topology m
         script.now calls (I.state inputs.old) (I.state inputs.new) out.old out.new result) }
-    // On every exit: what was asked for, and what was written of it.
+    // On every exit: what was asked for, and how much of it was written.
     ensures ran { Compared I.Inputs O.Sink object topology m script.now
         inputs.old inputs.new out.old out.new result }
-    // On every exit, of any inputs: the script is begun once, and read to its end or to one byte past the limit, or up
-    // to a call that failed, or, where the run ends before, up to somewhere. Nothing else is begun or read.
+    // On every exit, for any inputs: the script is opened once, and read to its end, or to one byte past the limit,
+    // or to a call that failed, or to where the run ends. Nothing else is opened or read.
     ensures begun { Meanwhile (I.state inputs.old) (I.state inputs.new) (ReadsScript result (script_named script.now)) }
     // On Memory nothing was written but the fault line, as far as the sink took it.
     ensures memory { result ≡ Exit.Memory → IsStarved O.Sink out.old out.new }
-    // ReadFault comes only where the inputs' count of faults rose.
+    // ReadFault comes only if the inputs' count of faults rose.
     ensures read_fault { result ≡ Exit.ReadFault → Rose (I.state inputs.old).faults (I.state inputs.new).faults }
-    // Where the inputs are observable, ReadFault comes only where the name isn't there, has a failing byte
-    // within the limit, or no more inputs can be begun.
+    // If the inputs are observable, ReadFault comes only if the name isn't there, has a failing byte within the
+    // limit, or no more inputs can be opened.
     ensures read_cause { I.observable → result ≡ Exit.ReadFault
         → MayFail script.now script_limit (I.state inputs.old) }
-    // WriteFault comes only where a write failed, or took 0 of a piece that isn't empty.
+    // WriteFault comes only if a write failed, or took 0 bytes of a piece that isn't empty.
     ensures write_fault { result ≡ Exit.WriteFault → HasFailed (O.state out.old) (O.state out.new) }
-    // Done comes only where no write failed, and none took 0 of a piece that isn't empty.
+    // Done comes only if no write failed, and none took 0 bytes of a piece that isn't empty.
     ensures unfailed { result ≡ Exit.Done → IsUnfailed (O.state out.old) (O.state out.new) }
 {
     what_differs_is_reached();
@@ -101,7 +102,7 @@ pub fn compare<I: Inputs, O: Sink>(
     compare_named(alloc, object, topology, m, inputs, script, out)
 }
 
-/// Compares the two runs of the named script, where it can be read.
+/// Opens the named script and compares its two runs. Refuses with Read if it can't be opened.
 fn compare_named<I: Inputs, O: Sink>(
     alloc: Global,
     object: Object,
@@ -124,8 +125,8 @@ fn compare_named<I: Inputs, O: Sink>(
     }
 }
 
-/// The text of a reach, both books at load, with what the first lines of the script attach, and the script, whose first
-/// lines were read.
+/// All that is ready before the first line: the text of the reach, both books at load with what the block attaches,
+/// and the script, whose block was read.
 #[derive(Drop)]
 pub(crate) struct Prepared {
     pub reach: Vec<u8>,
@@ -133,8 +134,8 @@ pub(crate) struct Prepared {
     pub front: Front,
 }
 
-/// Reads the block of an input that was just begun, loads both books with what it attaches, and finds the reach. All
-/// that takes memory.
+/// Reads the block of an input that was just opened, loads both books with what it attaches, and finds the reach: all
+/// that takes memory. Fails with `NoMemory`.
 fn prepare<I: Inputs>(
     alloc: Global,
     object: Object,
@@ -163,7 +164,8 @@ fn prepare<I: Inputs>(
     })
 }
 
-/// Reads the first lines of an input that was just begun, those of the block: the front, and what it attaches.
+/// Reads the block of an input that was just opened: returns the script behind it, and what it attaches. Fails with
+/// `NoMemory`.
 fn read_ahead<I: Inputs>(
     alloc: Global,
     inputs: &mut I,
@@ -179,7 +181,7 @@ fn read_ahead<I: Inputs>(
     with(front, attached)
 }
 
-/// The text of the reach of a master.
+/// The text of the reach of a master, which one of the objects has. Fails with `NoMemory`.
 fn text_of(alloc: Global, objects: &[Object], t: &Topology, m: NodeId) -> Result<Vec<u8>, NoMemory>
     requires { IsTrue (list_any (λ r. r.node == m.0) (masters_of objects.now)) }
     ensures { IfOk result (λ text. IsReachText objects.now t.now m text.items) }
@@ -188,8 +190,8 @@ fn text_of(alloc: Global, objects: &[Object], t: &Topology, m: NodeId) -> Result
     reach_text(alloc, &found)
 }
 
-/// Compares the two runs of the script of an input that was just begun from the load, with what its first lines attach,
-/// unless memory is wanted.
+/// Compares the two runs of the script in an input that was just opened, from the load with what its block attaches.
+/// Without enough memory the exit is Memory, and nothing else is written.
 fn compare_begun<I: Inputs, O: Sink>(
     alloc: Global,
     object: Object,
@@ -219,7 +221,7 @@ fn compare_begun<I: Inputs, O: Sink>(
     }
 }
 
-/// Writes the text of the reach, and compares the two runs of the script of a begun input.
+/// Writes the text of the reach, and compares the two runs of the rest of the script.
 fn run<I: Inputs, O: Sink>(
     prepared: &mut Prepared,
     m: NodeId,
@@ -250,7 +252,7 @@ fn run<I: Inputs, O: Sink>(
     }
 }
 
-/// Runs the lines of a script in both books, and writes what comes after them.
+/// Runs the lines of a script in both books, and writes what follows them: the differences, or a fault line.
 fn run_rest<I: Inputs, O: Sink>(
     worlds: &mut Worlds,
     front: &mut Front,
@@ -275,8 +277,7 @@ fn run_rest<I: Inputs, O: Sink>(
     }
 }
 
-/// Writes what comes after the last line: the differences, or the line of the fault for which the script
-/// can't be read on.
+/// Writes what follows the last line: the differences, or the fault line if the script can't be read on.
 fn finish<O: Sink>(worlds: &Worlds, stop: StopReason, count: u32, out: &mut O) -> Exit
     requires begins { stop ≢ Unbegun }
     ensures { Reports O.Sink (end_report (stop_of stop) worlds.now count) out.old out.new result }

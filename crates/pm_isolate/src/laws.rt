@@ -1,4 +1,4 @@
-//! Laws of two runs: what it means that a unit differs, and that what differs is in the reach.
+//! Laws of two runs: the meaning of 'a unit differs', and that a unit that differs is in the reach.
 
 ghost use Rattle.std.specs.Prelude.{◌≡◌, true, false, List};
 ghost use Rattle.pm_base.specs.declared.events.Event.{Event};
@@ -21,7 +21,7 @@ use pm_laws::{reach_is_closed, reach_keeps_apart, values_agree};
 use pm_run::books_of_a_run;
 use pm_topology::{kinds_are_exact, units_stand_in_order};
 
-/// A unit differs in two runs exactly where its transitions aren't the same.
+/// A unit differs in two runs exactly if its transitions aren't the same.
 pub fn transitions_are_exact()
     ensures same { (first second : List Line) (unit : Unit) → differs first second unit ≡ false
         → transitions unit first ≡ transitions unit second }
@@ -29,9 +29,8 @@ pub fn transitions_are_exact()
         → transitions unit first ≡ transitions unit second → ⊥ }
 {}
 
-/// A unit beyond the reach of a master has the same transitions in a run and in the run without the messages of that
-/// master. So a unit whose transitions differ is a member of the reach, or a processor of a master that is one; and so is
-/// each of all that differ.
+/// A unit beyond the reach of a master has the same transitions in a run and in the run without that master's
+/// messages. So each unit whose transitions differ is a member of the reach, or a processor of a master that is one.
 pub fn what_differs_is_reached()
     ensures beyond { (c : Setup) (m : NodeId) (events : List Event) (unit : Unit)
         → AreObjects (fixed_of c) → IsWellFormed c.topology

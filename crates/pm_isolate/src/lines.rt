@@ -1,4 +1,4 @@
-//! The lines of a script are run in two books, one after another.
+//! Running the lines of a script in two books, one after another.
 
 ghost use Rattle.std.specs.Prelude.{◌≡◌, ◌≢◌, IfOk};
 ghost use Rattle.pm_base.specs.Faults.{Rose};
@@ -15,8 +15,7 @@ use pm_base::{Event, Failed, NodeId};
 use pm_io::Inputs;
 use pm_reader::{Follower, Front, LineStop, LinesEnd};
 
-/// What steps both books by each line of a script, the quiet one without the messages of a master. It
-/// never fails.
+/// Steps both books by each line of a script, the quiet one without the messages of a master. It never fails.
 #[derive(Drop)]
 pub(crate) struct Watcher<'w> {
     worlds: &'w mut Worlds,
@@ -35,7 +34,8 @@ impl<'w> Follower for Watcher<'w> {
     }
 }
 
-/// Runs the lines of a begun input in both books, up to the first one that has no meaning.
+/// Runs the lines of an opened input in both books, up to the first one that can't be read. Its block was read
+/// before.
 pub fn run_lines<I: Inputs>(
     worlds: &mut Worlds,
     front: &mut Front,

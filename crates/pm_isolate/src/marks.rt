@@ -1,4 +1,4 @@
-//! The marks of the units: which of them were found to differ between two books.
+//! The marks of the units: for each unit whether it was found to differ between the two books.
 
 ghost use Rattle.std.specs.Prelude.{◌≡◌, ◌<◌, IfOk, Some, length, slice_get};
 ghost use Rattle.pm_isolate.specs.Marks.{is_proc, proc_places, renewed_at};
@@ -10,8 +10,8 @@ use pm_core::Book;
 use pm_topology::{Kind, Topology, UnitMap, unit_map_places};
 use std::alloc::Global;
 
-/// Marks each unit that shows different values in two books, if it is at one of the places that were logged, or, where a
-/// mode may have changed, at one of these, which are those of the processors.
+/// Marks each unit that shows different values in two books. Only the units at the logged places are looked at, and,
+/// if a mode may have changed, those at the places `procs` of the processors.
 pub fn log(loud: &Book, quiet: &Book, moves: &Moves, procs: &[usize], marks: &mut UnitMap<bool>)
     ensures { marks.new ≡ looked loud.now quiet.now moves.now procs.now marks.old }
 {
@@ -35,7 +35,7 @@ fn log_all(loud: &Book, quiet: &Book, marks: &mut UnitMap<bool>)
     }
 }
 
-/// Marks each unit that shows different values in two books, of those at these places.
+/// Marks each unit that shows different values in two books, among those at these places.
 fn log_along(loud: &Book, quiet: &Book, places: &[usize], marks: &mut UnitMap<bool>)
     ensures { marks.new ≡ compared_along loud.now quiet.now places.now marks.old }
 {
@@ -75,7 +75,7 @@ pub fn mark_at(marks: &UnitMap<bool>, place: usize) -> (Unit, bool)
 ///
 /// # Errors
 ///
-/// `NoMemory` where there is not enough memory.
+/// `NoMemory` if there is not enough memory.
 pub fn proc_places(alloc: Global, t: &Topology, units: &[Unit]) -> Result<Vec<usize>, NoMemory>
     ensures { IfOk result (λ places. places.items ≡ proc_places t.now 0 units.now) }
 {

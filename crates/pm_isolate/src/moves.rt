@@ -1,16 +1,14 @@
-//! The places of the units that moved in a script line, and whether a processor may have changed its mode.
+//! A log of the units that moved in a script line, by their places, and whether a mode may have changed.
 
 ghost use Rattle.std.specs.Prelude.{◌≡◌, [], false, IfOk};
-ghost use Rattle.pm_isolate.specs.Moves.{cleared, may_turn, with_event, with_place, with_unit, with_units};
+ghost use Rattle.pm_isolate.specs.Moves.{cleared, with_place, with_turn, with_unit, with_units};
 
-use pm_base::{BoundedList, Event, NoMemory, Unit};
-use pm_ipi::decode_call;
-use pm_step::keeps_procs;
+use pm_base::{BoundedList, NoMemory, Unit};
 use pm_topology::UnitMap;
 use std::alloc::Global;
 use std::marker::Model;
 
-/// The places of the units that moved in a script line, or all places, if more moved than there is room for, and whether
+/// The places of the units that moved in a script line, or all places if there was no room for one more; and whether
 /// a processor may have changed its mode. Contracts see all three.
 #[derive(Drop)]
 pub struct Moves {
@@ -32,11 +30,11 @@ impl Model for Moves {
 }
 
 impl Moves {
-    /// No places, with room for so many.
+    /// An empty log, with room for so many places.
     ///
     /// # Errors
     ///
-    /// `NoMemory` where there is not enough memory.
+    /// `NoMemory` if there is not enough memory.
     pub fn load(alloc: Global, room: usize) -> Result<Moves, NoMemory>
         ensures { IfOk result (λ moves. moves
             ≡ record { places = record { items = []; room = room }; all = false; modes = false }) }
@@ -50,7 +48,7 @@ impl Moves {
         })
     }
 
-    /// Takes all places out: no mode has changed.
+    /// Empties the log: no place, and no change of a mode.
     pub fn clear(&mut self)
         ensures { self.new ≡ cleared self.old }
     {
@@ -59,7 +57,7 @@ impl Moves {
         self.modes = false;
     }
 
-    /// Whether all places are meant.
+    /// Whether all places count as logged, for want of room.
     pub fn all(&self) -> bool
         ensures { result ≡ self.now.all }
     {
@@ -73,21 +71,21 @@ impl Moves {
         self.modes
     }
 
-    /// The places that were put in. A place may occur more than once.
+    /// The logged places. A place may occur more than once.
     pub fn places(&self) -> &[usize]
         ensures { result.now ≡ self.now.places.items }
     {
         self.places.as_slice()
     }
 
-    /// Logs whether a core event may change the mode of a processor.
-    pub fn add_event(&mut self, event: &Event)
-        ensures { self.new ≡ with_event event.now self.old }
+    /// Logs whether a processor went to a mode in a step.
+    pub fn add_turn(&mut self, turned: bool)
+        ensures { self.new ≡ with_turn turned self.old }
     {
-        self.modes = self.modes || may_turn(event);
+        self.modes = self.modes || turned;
     }
 
-    /// Puts the place of each of these units in.
+    /// Logs the place of each of these units.
     pub fn add_units(&mut self, marks: &UnitMap<bool>, units: &[Unit])
         ensures { self.new ≡ with_units marks.now units.now self.old }
     {
@@ -96,7 +94,7 @@ impl Moves {
         }
     }
 
-    /// Puts the place of a unit in, where it has one.
+    /// Logs the place of a unit, if it has one.
     fn add_unit(&mut self, marks: &UnitMap<bool>, unit: Unit)
         ensures { self.new ≡ with_unit marks.now self.old unit }
     {
@@ -105,7 +103,7 @@ impl Moves {
         }
     }
 
-    /// Puts a place in, or all places, if there is no room for it.
+    /// Logs a place; or all places, if there is no room for it.
     fn add(&mut self, place: usize)
         ensures { self.new ≡ with_place place self.old }
     {
@@ -114,17 +112,5 @@ impl Moves {
         } else {
             self.all = true;
         }
-    }
-}
-
-/// Whether a core event may change the mode of a processor: the message of a call that does more than to read the book or
-/// to change a row, and any other event at a processor or a slave.
-fn may_turn(event: &Event) -> bool
-    ensures { result ≡ may_turn event.now }
-{
-    match event {
-        Event::Ipi { message, .. } => !keeps_procs(&decode_call(message)),
-        Event::Boot { .. } | Event::Wfi { .. } | Event::Irq { .. } | Event::Gic { .. } => true,
-        _ => false,
     }
 }

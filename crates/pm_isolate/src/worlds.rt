@@ -20,10 +20,10 @@ use pm_topology::{Topology, UnitMap, unit_map_places, units_of, units_stand_in_o
 use std::alloc::Global;
 use std::marker::Model;
 
-/// The run with all messages, the quiet one without those of a master, and for each unit whether what it
-/// shows has differed between them: these contracts see. A unit that didn't move in either book and is no
-/// processor shows what it showed before, so after a line those that moved are looked at, and, where a mode may
-/// have changed, the processors, whose mode may change without their value.
+/// The run with all messages, the quiet run without those of a master, and for each unit whether it ever showed
+/// different values in the two: contracts see these. A unit that moved in neither book shows what it showed before,
+/// unless it is a processor: what it shows is its mode, which may change without its value. So after a line only the
+/// units that moved are looked at, and the processors if a mode may have changed.
 #[derive(Drop)]
 pub struct Worlds {
     loud: BoxedRun,
@@ -31,7 +31,7 @@ pub struct Worlds {
     differs: UnitMap<bool>,
     procs: Vec<usize>,
     moves: Moves,
-    /// Where the core events stand that a line makes.
+    /// The room for a core event that isn't its line's own.
     made: Event,
     /// An event in which nothing happens.
     pass: Event,
@@ -54,11 +54,11 @@ impl Model for Worlds {
 }
 
 impl Worlds {
-    /// Both books at load.
+    /// Both runs at load.
     ///
     /// # Errors
     ///
-    /// `NoMemory` where there is not enough memory.
+    /// `NoMemory` if there is not enough memory.
     pub fn load(
         alloc: Global,
         object: Object,
@@ -84,8 +84,8 @@ impl Worlds {
         })
     }
 
-    /// One line in both, but for a message of the master, in place of which nothing happens in the quiet
-    /// one; and each unit that then shows different values is marked.
+    /// Runs one line in both books, and marks each unit that then shows different values. In place of a message of
+    /// the master `m` nothing happens in the quiet book.
     pub fn step(&mut self, m: NodeId, event: &Event)
         ensures { self.new ≡ stepped m event.now self.old }
     {
@@ -137,7 +137,7 @@ impl Worlds {
         self.differs.len()
     }
 
-    /// The `k`-th unit, and whether it was found to differ.
+    /// The `k`-th unit, counted from 0, and whether it was found to differ.
     pub fn mark(&self, k: usize) -> (Unit, bool)
         requires place { k < length self.now.differs }
         ensures { slice_get self.now.differs k ≡ Some result }
@@ -146,8 +146,8 @@ impl Worlds {
     }
 }
 
-/// What is looked at after a line: whether each unit was found to differ, the places of the processors among the units,
-/// and room for the places of units that move.
+/// The parts for looking at units after a line: the mark of each unit, the places of the processors, and a log of
+/// moves.
 #[derive(Drop)]
 struct Looked {
     differs: UnitMap<bool>,
@@ -155,7 +155,8 @@ struct Looked {
     moves: Moves,
 }
 
-/// What stands beside the run with all messages at load: what is looked at, and the quiet run.
+/// The parts beside the run with all messages at load: those for looking at units, and the quiet run. Fails with
+/// `NoMemory`.
 fn beside_of(
     alloc: Global,
     object: &Object,
@@ -172,7 +173,7 @@ fn beside_of(
     with(looked, quiet)
 }
 
-/// What is looked at before the first line: nothing was found to differ.
+/// The parts for looking at units before the first line: no unit is marked. Fails with `NoMemory`.
 fn looked_of(alloc: Global, t: &Topology) -> Result<Looked, NoMemory>
     ensures differs { IfOk result (λ looked. looked.differs ≡ all_at false (units_of t.now)) }
     ensures procs { IfOk result (λ looked. looked.procs.items ≡ proc_places t.now 0 (units_of t.now)) }
@@ -187,7 +188,7 @@ fn looked_of(alloc: Global, t: &Topology) -> Result<Looked, NoMemory>
     })
 }
 
-/// The places of the processors among the units of a chip.
+/// The places of the processors among the units of a chip. Fails with `NoMemory`.
 fn procs_of(alloc: Global, t: &Topology) -> Result<Vec<usize>, NoMemory>
     ensures { IfOk result (λ procs. procs.items ≡ proc_places t.now 0 (units_of t.now)) }
 {
@@ -195,7 +196,7 @@ fn procs_of(alloc: Global, t: &Topology) -> Result<Vec<usize>, NoMemory>
     proc_places(alloc, t, units.as_slice())
 }
 
-/// A run at load, of equal ones in memory of their own.
+/// A run at load, over copies of these in memory of their own. Fails with `NoMemory`.
 fn copy_of(
     alloc: Global,
     object: &Object,
@@ -211,7 +212,7 @@ fn copy_of(
     BoxedRun::load(alloc, object, attached, topology)
 }
 
-/// Equal ones in memory of their own.
+/// A copy of attached objects. Fails with `NoMemory`.
 fn copy_attached(alloc: Global, attached: &[Attached]) -> Result<List<Attached>, NoMemory>
     ensures { IfOk result (λ copied. copied ≡ attached.now) }
 {
@@ -222,8 +223,8 @@ fn copy_attached(alloc: Global, attached: &[Attached]) -> Result<List<Attached>,
     Ok(copied)
 }
 
-/// Carries out the core events of a script line, and logs them with the places of the units that they move. One that is
-/// made of a message in a box is left in `made`.
+/// Carries out the core events of a script line, and logs the places of the units that they move. A core event that
+/// isn't the line's own is left in `made`.
 fn step_line(
     runner: &mut BoxedRun,
     event: &Event,
@@ -234,7 +235,7 @@ fn step_line(
     ensures stand { runner.new ≡ line_after event.now runner.old }
     ensures moves { moves.new ≡ line_moves marks.now event.now runner.old moves.old }
 {
-    // Nothing comes of such an event.
+    // Pass has no effect.
     if let Event::Pass = event {
         return;
     }
@@ -252,8 +253,8 @@ fn is_own(event: &Event) -> bool
     !matches!(event, Event::Post { .. } | Event::Serve | Event::Smc { .. })
 }
 
-/// Steps both books of any line by the core events that it is split into. (Most lines are their own event, and need no
-/// such loop.)
+/// Carries out the core events of any line, and logs the places of the units that they move. Most lines have only
+/// their own event, and need no such loop.
 #[inline(never)]
 fn step_more(
     runner: &mut BoxedRun,

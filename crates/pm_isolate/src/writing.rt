@@ -1,5 +1,4 @@
-//! The differences between two runs are written: a line for each unit that differs, and the number of
-//! script lines.
+//! Writing the differences between two runs: a line for each unit that differs, and the number of script lines.
 
 ghost use Rattle.std.specs.Prelude.{◌≡◌, ◌≤◌, ◌∷◌, length};
 ghost use Rattle.std.specs.List.{concat};
@@ -13,7 +12,7 @@ use pm_io::{Sink, write_all};
 use pm_topology::Topology;
 use pm_trace::{TextLine, Word, name, unit_name, write_line};
 
-/// Writes what comes after the last script line, where there were so many.
+/// Writes what follows the last script line, after `count` lines. Fails if the sink does.
 pub fn write_end<O: Sink>(worlds: &Worlds, count: u32, out: &mut O) -> Result<(), Failed>
     ensures { Writes O.Sink (end_text worlds.now count) out.old out.new result }
 {
@@ -21,7 +20,7 @@ pub fn write_end<O: Sink>(worlds: &Worlds, count: u32, out: &mut O) -> Result<()
     write_words(name(b"steps"), &[Word::Number(count)], out)
 }
 
-/// Writes a line for each unit that was found to differ.
+/// Writes a line for each unit that was found to differ. Fails if the sink does.
 fn write_marks<O: Sink>(worlds: &Worlds, out: &mut O) -> Result<(), Failed>
     ensures { Writes O.Sink (concat (mark_lines worlds.now)) out.old out.new result }
 {
@@ -33,7 +32,7 @@ fn write_marks<O: Sink>(worlds: &Worlds, out: &mut O) -> Result<(), Failed>
     Ok(())
 }
 
-/// Writes the line of a unit, if it was found to differ.
+/// Writes the line of a unit, if it was found to differ. Fails if the sink does.
 fn write_mark<O: Sink>(t: &Topology, unit: Unit, differs: bool, out: &mut O) -> Result<(), Failed>
     ensures { Writes O.Sink (mark_line t.now (unit, differs)) out.old out.new result }
 {
@@ -44,7 +43,7 @@ fn write_mark<O: Sink>(t: &Topology, unit: Unit, differs: bool, out: &mut O) -> 
     }
 }
 
-/// Writes the line of a unit that differs.
+/// Writes the line of a unit that differs. Fails if the sink does.
 fn write_unit<O: Sink>(t: &Topology, unit: Unit, out: &mut O) -> Result<(), Failed>
     ensures { Writes O.Sink (difference_line t.now unit) out.old out.new result }
 {
@@ -52,7 +51,7 @@ fn write_unit<O: Sink>(t: &Topology, unit: Unit, out: &mut O) -> Result<(), Fail
     write_words(name(b"differ"), &[kind, Word::Number(number)], out)
 }
 
-/// Writes a line of these words.
+/// Writes a line of these words. Fails if the sink does.
 fn write_words<O: Sink>(first: Word, rest: &[Word], out: &mut O) -> Result<(), Failed>
     requires room { widths (first ∷ rest.now) ≤ 127 }
     ensures { Writes O.Sink (line_text (first ∷ rest.now)) out.old out.new result }

@@ -15,7 +15,8 @@ use Rattle.pm_state.specs.Values.{value}
 use Rattle.pm_split.proofs.SplitLaw.{some_event}
 use Rattle.pm_run.specs.Run.{Setup, Stand, Line, IsBookOf, HasBooksOf, split, cores_of, book_after, line_of, lines_of, loaded, core_0, cores_in, run}
 
--- what keeps the books of a run: the first is sound, each step keeps it so, and a sound one meets its requirements
+-- the laws from below: the book at load is sound, each step keeps a book sound, and a sound book meets its
+-- requirements
 pub record BookLaws : Type 0 where
   pub load : (object : Object) (attached : List Attached) (topology : Topology) → IsSound (load_of object attached topology)
   pub step : (event : Event) (book : State) → IsSound book → IsSound (effect event book)

@@ -1,4 +1,4 @@
--- The objects of a script's run are well formed where the loaded one is.
+-- The objects of a script's run are well formed if the loaded one is.
 use Rattle.std.proofs.Common.{◌≡◌, Bool, true, false, if◌then◌else◌, List, [], ◌∷◌, Some, None, refl}
 use Rattle.std.specs.List.{AllByRecursion as Each}
 use Rattle.std.specs.Prelude.{option_to_list}
@@ -16,7 +16,7 @@ use Rattle.pm_topology.specs.declared.topology.Topology.{Topology}
 use Rattle.pm_state.specs.State.{objects_of, usable_among}
 use Rattle.pm_run.specs.Run.{fixed_of, setup_for}
 
--- what can be put in force of what is attached at an address
+-- the object, if one can be put in force, among the contents attached at an address
 one_formed : (object : Object) (it : Content) → ((o : Object) → it ≡ content.Object o → IsObject o) → Each IsObject (option_to_list (usable_content object it))
 one_formed object (content.Object o) formed = by (have_same_masters object.masters o.masters)
   where

@@ -1,4 +1,4 @@
--- Each line that serves empties all boxes, and sends what was in them.
+-- Each line that serves the boxes sends their messages, and empties them.
 use Rattle.std.proofs.Common.{◌≡◌, List, [], ◌∷◌, length, map, Bool, true, false, if◌then◌else◌, Option, Some, None, refl, sym, ◌∙◌, ap, subst}
 use Rattle.std.proofs.lemmas.List.{length-replicate}
 use Rattle.std.proofs.Math.ListN.{length-set}
@@ -20,7 +20,7 @@ use Rattle.pm_split.specs.Split.{post, split_of}
 use Rattle.pm_run.specs.Run.{Setup, Stand, Core, cores_of, line_of, lines_of, loaded, run}
 use Rattle.pm_run.specs.Served.{EmptiesBoxes, EachServes}
 
--- what is served is all that is in the boxes
+-- all that is in the boxes is served
 abbrev pub ServedLaw : Type 0
 ServedLaw = (object : Object) (boxes : Boxes) → IsObject object → length boxes ≡ length object.masters → ServesAll object boxes (waiting_in object boxes)
 

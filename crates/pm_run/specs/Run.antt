@@ -1,5 +1,5 @@
--- The run: the book at load, and then one script line for each event. A line is split into core events, and each of these is a
--- core step, which knows its own event and the books before and after it. No device occurs in it.
+-- The run: the book at load, and then one script line for each event. A line is split into core events. Each of these
+-- makes a core step, which has its event and the books before and after it. A run has no device.
 use Rattle.std.specs.Prelude.{◌≡◌, List, [], ◌∷◌, flat_map, length}
 use Rattle.pm_base.specs.declared.events.Event.{Event}
 use Rattle.pm_base.specs.declared.events.Event.TheVariants.{Pass}
@@ -17,7 +17,7 @@ use Rattle.pm_state.specs.Values.{value}
 use Rattle.pm_split.specs.Boxes.{Boxes}
 use Rattle.pm_split.specs.Split.{Note, Split, split_of}
 
--- what a run begins with: the object that is loaded, what is attached, and the chip
+-- the setup of a run: the loaded object, the attached objects, and the chip
 pub record Setup : Type 0 where
   pub object : Object
   pub attached : List Attached
@@ -26,19 +26,19 @@ pub record Setup : Type 0 where
 abbrev pub setup : Object → List Attached → Topology → Setup
 setup object attached topology = record { object = object; attached = attached; topology = topology }
 
--- what the run of these events begins with: its first lines attach what is attached
+-- the setup of the run of these events, whose first lines attach the attached objects
 abbrev pub setup_for : Object → Topology → List Event → Setup
 setup_for object topology events = setup object (attached_by events) topology
 
--- what is fixed in each book of it
+-- the fixed half of each book of the run
 abbrev pub fixed_of : Setup → Fixed
 fixed_of c = record { object = c.object; topology = c.topology; attached = c.attached }
 
--- the object, what is attached, and the chip of a book
+-- the setup that a book has: its object, the attached objects, and the chip
 abbrev pub setup_of : State → Setup
 setup_of book = setup book.fixed.object book.fixed.attached book.fixed.topology
 
--- where a run stands between two script lines: the book, and the boxes of the masters
+-- the state of a run between two script lines: the book, and the boxes of the masters
 pub record Stand : Type 0 where
   pub book : State
   pub boxes : Boxes
@@ -46,29 +46,29 @@ pub record Stand : Type 0 where
 abbrev pub stand_at : State → Boxes → Stand
 stand_at book boxes = record { book = book; boxes = boxes }
 
--- a core step: its event, the books before and after it, and what it puts out
+-- a core step: its event, the books before and after it, and its outputs
 pub record Core : Type 0 where
   pub event : Event
   pub before : State
   pub after : State
   pub outputs : Outputs
 
--- a script line: its event, its core steps in order, its own notes, and where the run stands after it
+-- a script line: its event, its core steps in order, its own notes, and the state of the run after it
 pub record Line : Type 0 where
   pub event : Event
   pub cores : List Core
   pub notes : List Note
   pub after : Stand
 
--- what the event of a script line is split into, by the boxes before it and the chip: core events, of which there is
--- always one, the boxes after it, and notes
+-- the event of a script line, split by the boxes before it and the chip: core events, at least one; the boxes after
+-- it; and notes
 abbrev pub split : Setup → Event → Stand → Split
 split c event stand = split_of c.object c.topology event stand.boxes
 
 abbrev pub core_of : Event → State → Core
 core_of event book = record { event = event; before = book; after = effect event book; outputs = outputs event book }
 
--- one core step after another
+-- the core steps of these events, one after another
 abbrev pub cores_of : List Event → State → List Core
 cores_of [] book = []
 cores_of (event ∷ events) book = core_of event book ∷ cores_of events (effect event book)
@@ -91,11 +91,11 @@ abbrev pub lines_of : Setup → List Event → Stand → List Line
 lines_of c [] stand = []
 lines_of c (event ∷ events) stand = line_of c event stand ∷ lines_of c events (line_of c event stand).after
 
--- the load comes before all events, and all boxes are empty then
+-- the state at load, before all events: all boxes are empty
 abbrev pub loaded : Setup → Stand
 loaded c = record { book = load_of c.object c.attached c.topology; boxes = all_empty (length c.object.masters) }
 
--- the load as a core step: nothing happens in it but what the load itself puts out
+-- the load as a core step of the event Pass, with the outputs of the load
 abbrev pub core_0 : Setup → Core
 core_0 c =
     record { event = Pass; before = (loaded c).book; after = (loaded c).book; outputs = outputs_at_load (loaded c).book }
@@ -103,11 +103,11 @@ core_0 c =
 abbrev pub line_0 : Setup → Line
 line_0 c = record { event = Pass; cores = core_0 c ∷ []; notes = []; after = loaded c }
 
--- the load, and then a line for each event
+-- the lines of a run: the load, and then a line for each event
 abbrev pub run : Setup → List Event → List Line
 run c events = line_0 c ∷ lines_of c events (loaded c)
 
--- what is said of a run and concerns no book: nothing yet
+-- the lines of a run as they are; nothing is added to them
 abbrev pub said : List Line → List Line
 said lines = lines
 
@@ -115,14 +115,13 @@ said lines = lines
 abbrev pub cores_in : List Line → List Core
 cores_in lines = flat_map (λ (line : Line). line.cores) lines
 
--- what holds of each book of a run: what is fixed in it is that of the setup, it is sound, and its values meet its
--- requirements
+-- each book of a run has the fixed half of the setup, is sound, and its values meet its requirements
 pub record IsBookOf (c : Setup) (book : State) : Type 0 where
   pub fixed : book.fixed ≡ fixed_of c
   pub sound : IsSound book
   pub met : MeetsRequirements book (λ u. value u book)
 
--- so of the books before and after a core step
+-- the books before and after a core step are books of the run
 pub record HasBooksOf (c : Setup) (core : Core) : Type 0 where
   pub before : IsBookOf c core.before
   pub after : IsBookOf c core.after

@@ -1,4 +1,4 @@
--- What the lines of a run that serve do with the boxes of the masters.
+-- The effect of a run's lines that serve the boxes of the masters.
 use Rattle.std.specs.Prelude.{◌≡◌, ⊤, List, [], ◌∷◌, length, map}
 use Rattle.pm_base.specs.declared.events.Event.{Event}
 use Rattle.pm_base.specs.declared.events.Event.TheVariants.{Serve}
@@ -12,8 +12,8 @@ use Rattle.pm_run.specs.Run.{Setup, Core, Line}
 abbrev pub events_of : Line → List Event
 events_of line = map (λ (core : Core). core.event) line.cores
 
--- the messages in the boxes before the line are its core events, each once, by rising mask of their masters, and a Pass if there is
--- none. All boxes are empty after it, and the line writes nothing of its own
+-- the core events of the line are the messages in the boxes before it, each once, by rising mask of their masters, or
+-- a Pass if there is none. After it all boxes are empty, and the line has no notes of its own
 pub record EmptiesBoxes (c : Setup) (boxes : Boxes) (line : Line) : Type 0 where
   pub served : List Event
   pub all : ServesAll c.object boxes served
@@ -21,7 +21,7 @@ pub record EmptiesBoxes (c : Setup) (boxes : Boxes) (line : Line) : Type 0 where
   pub empty : line.after.boxes ≡ all_empty (length c.object.masters)
   pub notes : line.notes ≡ []
 
--- so does each line that serves, from what the boxes hold before the first line
+-- each line that serves the boxes does so, from the boxes before the first line on
 abbrev pub EachServes : Setup → Boxes → List Line → Type 0
 EachServes c boxes [] = ⊤
 EachServes c boxes (line ∷ lines) = (line.event ≡ Serve → EmptiesBoxes c boxes line) × EachServes c line.after.boxes lines

@@ -1,4 +1,4 @@
-//! Laws of runs.
+//! Laws of runs: their books, and the boxes of the masters.
 
 ghost use Rattle.std.specs.Prelude.{◌<◌, List, length};
 ghost use Rattle.std.specs.List.{All};
@@ -14,8 +14,8 @@ use pm_core::{books_stay_sound, values_meet};
 use pm_split::boxes_are_served;
 
 /// Each book of a run over a chip that passes its check has the object and the chip of the run's setup, is sound, and
-/// stands as its requirements ask for: the book at load, each that follows by an event, those along a list of core
-/// events, the one after a line, and so each one of the run. Each line has a core step.
+/// meets its requirements. It holds of the book at load; it stays so after an event; and so it holds along a list of
+/// core events, after a line, and everywhere in a run. Each line has a core step.
 pub fn books_of_a_run()
     ensures load { (c : Setup) → IsWellFormed c.topology → IsBookOf c (loaded c).book }
     ensures step { (c : Setup) (event : Event) (book : State) → IsWellFormed c.topology
@@ -36,8 +36,8 @@ pub fn books_of_a_run()
     values_meet();
 }
 
-/// In a run over a well-formed object each line that serves sends the messages in all boxes, each once, by rising mask of
-/// their masters, and leaves all boxes empty.
+/// Each line of a run that serves the boxes sends the message of each full box once, by rising mask of the masters,
+/// and leaves all boxes empty. The object has to be well formed.
 pub fn boxes_of_a_run()
     ensures { (c : Setup) (events : List Event) → IsObject c.object
         → EachServes c (loaded c).boxes (run c events) }

@@ -1,11 +1,11 @@
-//! A book, the outbox of its last step and the boxes of its masters, with no device.
+//! The core without a device: a book, the outbox of its last step, and the boxes of its masters.
 
 ghost use Rattle.std.specs.Prelude.{◌≡◌, ◌∷◌, [], None, IfOk, MatchOption, length};
 ghost use Rattle.pm_ipi.specs.Mail.{all_empty};
 ghost use Rattle.pm_topology.specs.WellFormed.{IsWellFormed};
 ghost use Rattle.pm_state.specs.Load.{load_of};
 ghost use Rattle.pm_core.specs.Outbox.{HasRoomFor, Holds};
-ghost use Rattle.pm_core.specs.Step.{effect, outputs, outputs_at_load};
+ghost use Rattle.pm_core.specs.Step.{effect, outputs, outputs_at_load, turns_proc};
 ghost use Rattle.pm_split.specs.Left.{boxes_left, core_event, events_left};
 ghost use Rattle.pm_split.specs.Split.{noted};
 ghost use Rattle.pm_run.specs.Run.{loaded, setup, setup_of, split, stand_at};
@@ -18,8 +18,7 @@ use pm_split::{CoreEvents, Source, Split, split_event};
 use pm_topology::Topology;
 use std::alloc::Global;
 
-/// A book, the outbox of its last step, which has the room that each step of the book asks for, and a box for each of
-/// its masters.
+/// A book, the outbox of its last step, and a box for each of its masters. The outbox has room for each step.
 #[derive(Drop)]
 pub struct Runner {
     pub book: Book,
@@ -30,7 +29,8 @@ pub struct Runner {
 }
 
 impl Runner {
-    /// The book of an object at load, with what is attached, what the load puts out, and empty boxes.
+    /// A runner at load, for an object, the attached objects and a chip. The outbox holds what the load puts out, and
+    /// all boxes are empty.
     ///
     /// # Errors
     ///
@@ -59,7 +59,8 @@ impl Runner {
         })
     }
 
-    /// Splits the event of a script line, by the boxes and the chip. Its core events are taken by `next`.
+    /// Splits the event of a script line into core events, by the boxes and the chip. `next` takes these one after
+    /// another.
     pub fn split<'e>(&mut self, event: &'e Event) -> Split<'e>
         ensures book { self.new.book ≡ self.old.book }
         ensures outbox { self.new.outbox ≡ self.old.outbox }
@@ -78,8 +79,8 @@ impl Runner {
         )
     }
 
-    /// Takes the next core event of a line off, if there is one; one that is made is left in `made`. At the end of a line that
-    /// serves all boxes are empty.
+    /// The next core event of a line, or None at its end. An event that isn't the line's own is left in `made`. At
+    /// the end of a line that serves the boxes, all of them are empty.
     #[inline]
     pub fn next<'e>(&mut self, cores: &mut CoreEvents<'e>, made: &mut Event) -> Option<Source<'e>>
         ensures book { self.new.book ≡ self.old.book }
@@ -101,12 +102,13 @@ impl Runner {
         )
     }
 
-    /// One core event.
+    /// Steps the book by one core event, and leaves its outputs in the outbox. The boxes stay.
     pub fn step(&mut self, event: &Event)
         ensures book { self.new.book ≡ effect event.now self.old.book }
         ensures fixed { self.new.book.fixed ≡ self.old.book.fixed }
         ensures boxes { self.new.boxes ≡ self.old.boxes }
         ensures out { Holds (outputs event.now self.old.book) self.new.outbox }
+        ensures turned { self.new.outbox.turned ≡ turns_proc event.now self.old.book }
     {
         self.book.step(event, &mut self.outbox);
     }

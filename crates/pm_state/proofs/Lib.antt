@@ -1,9 +1,13 @@
 pub mod AnewLaw
 pub mod ArmedLaw
 pub mod BelowLaw
+pub mod ChangesLaw
+pub mod UnmovedLaw
+pub mod ChangesLemmas
 pub mod ChipLaw
 pub mod Each
 pub mod FollowLemmas
+pub mod IdleLemmas
 pub mod KeptLemmas
 pub mod LoadLaw
 pub mod MasterNotesLaw
@@ -14,7 +18,9 @@ pub mod PairsLaw
 pub mod PendingLaw
 pub mod Permitted
 pub mod PlacedLemmas
+pub mod PlacesLaw
 pub mod RowLaws
 pub mod ScopeLemmas
 pub mod ScopeSound
 pub mod StageLaw
+pub mod WrittenLemmas

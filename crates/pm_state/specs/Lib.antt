@@ -1,5 +1,6 @@
 pub mod Below
 pub mod Boot
+pub mod Changes
 pub mod Chip
 pub mod Choice
 pub mod Fed

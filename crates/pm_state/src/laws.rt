@@ -1,6 +1,6 @@
 //! Laws of the state.
 
-ghost use Rattle.std.specs.Prelude.{◌≡◌, ℕ, Some, is_some, true};
+ghost use Rattle.std.specs.Prelude.{◌≡◌, ℕ, List, Some, is_some, true};
 ghost use Rattle.pm_base.specs.declared.names.NodeId.{NodeId};
 ghost use Rattle.pm_object.specs.declared.object.Object.{Object};
 ghost use Rattle.pm_perms.specs.Permits.{may_use};
@@ -12,7 +12,10 @@ ghost use Rattle.pm_state.specs.Sound.{IsSound};
 ghost use Rattle.pm_state.specs.Objects.{found_at, usable_first};
 ghost use Rattle.pm_state.specs.State.{Fixed, State, in_force, object_at};
 ghost use Rattle.pm_state.specs.declared.objects.Found.TheVariants.{Usable};
+ghost use Rattle.pm_state.specs.Changes.{HasPlaces, Keeps, Written, unwritten, written_along};
 ghost use Rattle.pm_state.specs.Nodes.{row};
+ghost use Rattle.pm_state.specs.Prims.{Prim};
+ghost use Rattle.pm_state.specs.Stages.{after_stages};
 
 use pm_notify::notes_stand_in_order;
 use pm_procs::{modes_of_masters, requests_of_masters};
@@ -43,4 +46,14 @@ pub fn members_are_owned()
 pub fn found_objects_are_attached()
     ensures { (address k : ℕ) (fixed : Fixed) → found_at address fixed ≡ Usable k
         → object_at fixed k ≡ usable_first fixed.object address fixed.attached }
+{}
+
+/// What the stages of a step don't write down keeps what is wanted of it and its users, its mode and resume address,
+/// whether it is asserted, and the mode that the rows know of it.
+#[tactic(auto, using(crate::proofs::ChangesLaw::keeps_step, crate::proofs::PlacesLaw::places_stay))]
+pub fn changes_are_written()
+    ensures kept { (stages : List (List Prim)) (book : State) (w : Written)
+        → Keeps (written_along stages book (unwritten w)) book.now.core (after_stages stages book).now.core }
+    ensures places { (fixed : Fixed) (stages : List (List Prim)) (book : State) (w : Written)
+        → HasPlaces fixed w → HasPlaces fixed (written_along stages book (unwritten w)) }
 {}

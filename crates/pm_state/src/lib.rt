@@ -3,6 +3,7 @@
 #![tactic(auto)]
 
 mod below;
+mod changes;
 mod chip;
 mod counters;
 mod laws;
@@ -18,7 +19,10 @@ mod stages;
 mod tables;
 mod talk;
 
-pub use laws::{found_objects_are_attached, loads_are_sound, members_are_owned};
+pub use changes::Changes;
+pub use laws::{
+    changes_are_written, found_objects_are_attached, loads_are_sound, members_are_owned,
+};
 pub use nodes::master_node;
 pub use objects::Found;
 pub use scope::Scope;

@@ -1,16 +1,9 @@
 pub mod AskedLaw
-pub mod AwakeLaw
 pub mod EndedLaw
 pub mod ForceLaw
 pub mod MessageLaw
-pub mod QuietLaw
 pub mod Refused
 pub mod RestsLaw
 pub mod RestartLaw
 pub mod SoundSteps
 pub mod StepLaw
-pub mod StillLaw
-pub mod TouchedLaw
-pub mod ModesLaw
-pub mod StaysLaw
-pub mod PlainLaw

@@ -1,3 +1,1 @@
-pub mod Fresh
 pub mod Step
-pub mod Within

@@ -4,3 +4,4 @@ pub mod RenewLaw
 pub mod TalkLemmas
 pub mod TellLemmas
 pub mod QuietLaw
+pub mod StillLaw

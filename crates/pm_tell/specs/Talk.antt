@@ -16,22 +16,18 @@ use Rattle.pm_tell.specs.declared.telling.Telling.{Telling}
 use Rattle.pm_tell.specs.Served.{says_in}
 use Rattle.pm_tell.specs.Telling.{HasPlaces, mode_before, news_in, notes_after, opening_in, tellings, with_news}
 
--- the masters of a book may be told of events of nodes: the caches are those of the book, each master has notes, and
--- there is room for the log of the step, with two notices about each unit at most, and for the callbacks
-pub record MayNotify (book : State) (caches : Caches) (telling : Telling) (callbacks : Bounded Callback) : Type 0 where
-  pub kept : AreKept book caches
-  pub notes : HasNotes book
-  pub places : HasPlaces book.fixed.topology (length book.fixed.object.masters) telling
-  pub few : length telling.notices.items ≤ notice_count (unit_count book.fixed.topology)
-  pub room : length callbacks.items + callbacks_at_most book ≤ callbacks.room
-
--- they may be told of a whole step: the book has a place for the request that is pending on each, and there is room for
--- a late reply about each
+-- the masters of a book may be told of a step: the caches are those of the book, each master has notes and a place for the
+-- request that is pending on it, and there is room for the log of the step, with two notices about each unit at most, for
+-- a late reply about each request, and for the callbacks
 pub record MayTell (book : State) (caches : Caches) (telling : Telling) (late : Bounded Late)
     (callbacks : Bounded Callback) : Type 0 where
-  pub notify : MayNotify book caches telling callbacks
+  pub kept : AreKept book caches
+  pub notes : HasNotes book
   pub each : length book.now.talk.pending ≡ length book.fixed.object.masters
-  pub room : length late.items + length book.fixed.object.masters ≤ late.room
+  pub places : HasPlaces book.fixed.topology (length book.fixed.object.masters) telling
+  pub few : length telling.notices.items ≤ notice_count (unit_count book.fixed.topology)
+  pub replies : length late.items + length book.fixed.object.masters ≤ late.room
+  pub calls : length callbacks.items + callbacks_at_most book ≤ callbacks.room
 
 -- the masters of a book are told of a step: its news is logged, the new book has all that is told, and the late replies
 -- and the callbacks of the step come behind the earlier ones

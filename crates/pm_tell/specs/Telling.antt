@@ -8,7 +8,7 @@ use Rattle.pm_calls.specs.Verdict.{aborted_by, asked_by}
 use Rattle.pm_tell.specs.declared.telling.Telling.{Telling}
 use Rattle.pm_values.specs.declared.turns.Turns.{Turns}
 use Rattle.pm_values.specs.Along as along
-use Rattle.pm_values.specs.Along.{mode_logged, turns_logged}
+use Rattle.pm_values.specs.Along.{mode_logged, modes_of, trail_from, turns_logged}
 use Rattle.pm_tell.specs.Callbacks.{News, note_changes, wakes}
 use Rattle.pm_values.specs.Notifications.{notice_count}
 use Rattle.pm_state.specs.Members.{mode_of_master}
@@ -42,6 +42,12 @@ with_news says count after telling = record telling {
 -- the log with no news but the events of nodes
 abbrev pub without_news : Telling → Telling
 without_news telling = record telling { asks = None; ended = record telling.ended { items = [] } }
+
+-- what is logged of a step before its first stage in this book: the modes are its own, and what is logged along the step
+-- begins with it
+pub record IsFresh (book : State) (telling : Telling) : Type 0 where
+  pub modes : telling.modes.items ≡ modes_of book
+  pub along : telling.along ≡ trail_from book
 
 -- what there is to tell
 abbrev pub news_in : Telling → News

@@ -13,6 +13,7 @@ ghost use Rattle.pm_values.specs.Notifications.{notice_count};
 ghost use Rattle.pm_state.specs.Sound.{HasNotes};
 ghost use Rattle.pm_state.specs.Talk.{take_of, talked};
 ghost use Rattle.pm_tell.specs.Telling.{NoneWakes, mode_before, news_in};
+ghost use Rattle.pm_values.specs.Along.{modes_of};
 
 use crate::ended::Ended;
 use crate::keeping::{is_wanted, keep_notes};
@@ -121,6 +122,7 @@ pub(crate) fn tell_masters(
 )
     requires kept { AreKept tables.old caches.now }
     requires notes { HasNotes tables.old }
+    requires modes { telling.now.moved ≡ false → telling.now.modes.items ≡ modes_of tables.old }
     requires ended { length telling.now.ended.items ≤ length tables.old.fixed.object.masters }
     requires notices { length telling.now.notices.items ≤ notice_count (unit_count tables.old.fixed.topology) }
     requires room { length callbacks.old.items + callbacks_at_most tables.old ≤ callbacks.old.room }
@@ -148,8 +150,12 @@ pub(crate) fn tell_masters(
 /// Whether some master was asleep before the step and is active or suspending after it. Otherwise no note that waited
 /// is told.
 fn one_wakes(tables: &Tables, telling: &Telling) -> bool
+    requires modes { telling.now.moved ≡ false → telling.now.modes.items ≡ modes_of tables.now }
     ensures { result ≡ false → NoneWakes telling.now tables.now }
 {
+    if !telling.moved {
+        return false;
+    }
     for k in 0..tables.masters() {
         if same_mode(telling.mode(k), Mode::Asleep) && is_awake(tables.mode_of_master(k)) {
             return true;

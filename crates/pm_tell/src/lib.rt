@@ -13,5 +13,5 @@ mod telling;
 pub use callbacks::Callback;
 pub use late::Late;
 pub use served::{Served, pulse_in};
-pub use talk::{tell, tell_notices};
+pub use talk::tell;
 pub use telling::Telling;

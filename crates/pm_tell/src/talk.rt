@@ -1,12 +1,10 @@
 //! Telling the masters of a step: their notifiers, the requests that are pending on them and their notes change.
 
-ghost use Rattle.std.specs.Prelude.{◌≡◌, ◌++◌};
-ghost use Rattle.pm_tell.specs.Callbacks as spec;
-ghost use Rattle.pm_tell.specs.Callbacks.{note_changes};
-ghost use Rattle.pm_tell.specs.Talk.{MayNotify, MayTell, TellsMasters};
-ghost use Rattle.pm_tell.specs.Telling.{mode_before, news_in, without_news};
+ghost use Rattle.std.specs.Prelude.{◌≡◌, ◌≤◌, false, length};
 ghost use Rattle.pm_state.specs.Talk.{talked};
-ghost use Rattle.pm_values.specs.Along.{modes_of};
+ghost use Rattle.pm_tell.specs.Served.{says_in};
+ghost use Rattle.pm_tell.specs.Talk.{MayTell, TellsMasters};
+ghost use Rattle.pm_tell.specs.Telling.{IsFresh, opening_in, with_news};
 
 use crate::callbacks::{Callback, tell_masters};
 use crate::late::{Late, tell_late};
@@ -29,41 +27,39 @@ pub fn tell(
     late: &mut BoundedList<Late>,
     callbacks: &mut BoundedList<Callback>,
 )
-    requires { MayTell tables.old caches.now telling.old late.old callbacks.old }
+    requires may { MayTell tables.old caches.now telling.old late.old callbacks.old }
+    requires fresh { telling.old.moved ≡ false → IsFresh tables.old telling.old }
     ensures { TellsMasters served.now count tables.old tables.new telling.old telling.new late.old late.new
         callbacks.old callbacks.new }
 {
     notes_stand_in_order();
-    let says = says_in(served);
-    telling.log_ended(tables, says, count);
-    open(tables, telling, served, count);
+    open_step(tables, telling, served, count);
     tell_masters(tables, caches, telling, callbacks);
     keep_own(tables, served);
     tell_late(tables, telling.ended(), late);
 }
 
-/// Tells the masters of a step in which no mode changes, no message has them told anything and no time passes: no
-/// request ends, and they are told of the events of nodes alone.
-pub fn tell_notices(
+/// Logs which master is asked to suspend and which requests end, and makes the changes that come before any master is
+/// told.
+fn open_step(
     tables: &mut Tables,
-    caches: &Caches,
     telling: &mut Telling,
-    callbacks: &mut BoundedList<Callback>,
+    served: &Option<Served>,
+    count: Option<u32>,
 )
-    requires may { MayNotify tables.old caches.now telling.old callbacks.old }
-    requires modes { telling.old.modes.items ≡ modes_of tables.old }
-    ensures news { telling.new ≡ without_news telling.old }
-    ensures book { tables.new
-        ≡ talked (note_changes (news_in telling.new) (mode_before telling.new) tables.old.now.talk.notes
-        tables.old) tables.old }
-    ensures callbacks { callbacks.new ≡ record callbacks.old {
-      items = callbacks.old.items ++ spec.callbacks (news_in telling.new) (mode_before telling.new)
-          tables.old.now.talk.notes tables.old;
-    } }
+    requires each { length tables.old.now.talk.pending ≡ length tables.old.fixed.object.masters }
+    requires room { length tables.old.fixed.object.masters ≤ telling.old.ended.room }
+    requires fresh { telling.old.moved ≡ false → IsFresh tables.old telling.old }
+    ensures news { telling.new ≡ with_news (says_in served.now) count tables.old telling.old }
+    ensures few { length telling.new.ended.items ≤ length tables.old.fixed.object.masters }
+    ensures book { tables.new ≡ talked (opening_in telling.new (says_in served.now) count tables.old) tables.old }
 {
-    telling.clear_news();
-    // Most such steps have nothing to tell, and no master wakes in any.
-    if !telling.has_no_news(tables) {
-        tell_masters(tables, caches, telling, callbacks);
+    let says = says_in(served);
+    // In most steps no processor moves, the message has no master told anything, and no time passes: no request ends.
+    if !telling.moved && says.is_none() && count.is_none() {
+        telling.clear_news();
+        return;
     }
+    telling.log_ended(tables, says, count);
+    open(tables, telling, served, count);
 }

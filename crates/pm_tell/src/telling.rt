@@ -24,6 +24,8 @@ pub struct Telling {
     pub modes: Vec<Mode>,
     /// The changes of their modes along the step.
     pub along: Along,
+    /// Whether a processor went to a mode in the step. If not, the modes are those before it, and nothing became of any.
+    pub moved: bool,
     /// The master that is asked to suspend in the step.
     asks: Option<Asked>,
     /// The requests to suspend that end in the step. There is room for one to each master.
@@ -39,6 +41,7 @@ impl Telling {
         let Telling {
             modes: _,
             along: _,
+            moved: _,
             asks: _,
             ended: _,
             notices: _,
@@ -65,6 +68,7 @@ impl Telling {
         Ok(Telling {
             modes: Vec::from_elem(alloc, Mode::Off, masters).map_err(|_| NoMemory)?,
             along: Along::load(alloc, masters, procs)?,
+            moved: false,
             asks: None,
             ended: BoundedList::with_room(alloc, masters)?,
             notices: BoundedList::with_room(alloc, notices)?,

@@ -135,7 +135,7 @@ length_unless false k awake = length-set awake k true
 
 -- ---- each slave has one unit
 
-record HasSlave (t : Topology) (s : ℕ) (u : Option Unit) : Type 0 where
+pub record HasSlave (t : Topology) (s : ℕ) (u : Option Unit) : Type 0 where
   node : NodeId
   slave : SlaveDef
   is : u ≡ Some (Node node)
@@ -166,7 +166,7 @@ all_pass p (x ∷ us) zero u all at = let same : x ≡ u = cc in ap p (sym same)
 all_pass p (x ∷ us) (suc k) u all at = all_pass p us k u (both (p x) (list_all p us) all).1 at
 
 -- in units that rise each stands at one place
-stands_once : (us : List Unit) (j k : ℕ) (u : Unit) → rises us ≡ true → slice_get us j ≡ Some u → slice_get us k ≡ Some u → j ≡ k
+pub stands_once : (us : List Unit) (j k : ℕ) (u : Unit) → rises us ≡ true → slice_get us j ≡ Some u → slice_get us k ≡ Some u → j ≡ k
 stands_once [] j k u rise first later = cc
 stands_once (x ∷ us) zero zero u rise first later = refl
 stands_once (x ∷ us) zero (suc k) u rise first later =

@@ -9,14 +9,14 @@ pub mod NeededLaw
 pub mod NoticesLaw
 pub mod RestLaw
 pub mod SettledLaw
-pub mod SlaveLaw
 pub mod StartsLaw
-pub mod TouchesLaw
 pub mod Wants
 pub mod RenewedLaw
-pub mod ModesLaw
 pub mod FollowLaw
 pub mod KindsLaw
 pub mod UnderWay
 pub mod WordsLaw
 pub mod OthersLaw
+pub mod BringLaw
+pub mod ClearLaw
+pub mod LinesLaw

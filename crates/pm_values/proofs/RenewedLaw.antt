@@ -1,17 +1,14 @@
 -- Lists with one item for each slave, some of which are found anew.
-use Rattle.std.proofs.Common.{◌≡◌, ℕ, ◌+◌, ◌≤◌, ◌==◌, ◌&&◌, ◌||◌, Bool, true, false, not, if◌then◌else◌, List, [], ◌∷◌, length, take, slice_get, unwrap_or, Option, Some, None, refl, zero, suc, arith, ap, sym, ◌∙◌, ◌⊎◌, inl, inr}
+use Rattle.std.proofs.Common.{◌≡◌, ℕ, ◌+◌, ◌<◌, ◌≤◌, ◌==◌, ◌&&◌, ◌||◌, Bool, true, false, if◌then◌else◌, List, [], ◌∷◌, length, take, slice_get, Option, Some, None, refl, zero, suc, arith, ap, sym, ◌∙◌, ◌⊎◌, inl, inr}
 use Rattle.std.specs.Prelude.{slice_set}
-use Rattle.std.specs.List.{list_any}
-use Rattle.std.proofs.Math.Bool.{beq}
-use Rattle.std.proofs.lemmas.Bool.{eq-eqb, eqb-true}
+use Rattle.std.proofs.lemmas.Bool.{eqb-true}
 use Rattle.std.proofs.lemmas.Bool.Decides.{nat_tests}
 use Rattle.std.proofs.lemmas.List.Folds.{list_any-append}
 use Rattle.pm_base.proofs.ListLemmas.{take_next}
 use Rattle.pm_topology.specs.declared.topology.SlaveDef.{SlaveDef}
-use Rattle.pm_rows.specs.declared.row.Entry.{Entry}
+use Rattle.pm_state.specs.Changes.{is_in}
 use Rattle.pm_state.specs.Values.{placed}
 use Rattle.pm_values.specs.Caches.{renewed, renewed_at}
-use Rattle.pm_values.specs.Touches.{is_among, is_on}
 
 module _ {A : Type 0} (new : ℕ → SlaveDef → A) where
   -- where none is asked for, none is found anew
@@ -19,11 +16,6 @@ module _ {A : Type 0} (new : ℕ → SlaveDef → A) where
   renewed_none k [] items places = refl
   renewed_none k (x ∷ slaves) [] places = refl
   renewed_none k (x ∷ slaves) (item ∷ items) places = ap (λ more. item ∷ more) (renewed_none (k + 1) slaves items (omega arith))
-
-  pub renewed_of_none : (k : ℕ) (slaves : List SlaveDef) (items : List A) → renewed (λ s. false) new k slaves items ≡ items
-  renewed_of_none k [] items = refl
-  renewed_of_none k (x ∷ slaves) [] = refl
-  renewed_of_none k (x ∷ slaves) (item ∷ items) = ap (λ more. item ∷ more) (renewed_of_none (k + 1) slaves items)
 
   -- by tests that agree from a place on the same are
   renewed_same : (one two : ℕ → Bool) (k : ℕ) (slaves : List SlaveDef) (items : List A) → ((s : ℕ) → k ≤ s → one s ≡ two s) → renewed one new k slaves items ≡ renewed two new k slaves items
@@ -95,11 +87,6 @@ module _ {A : Type 0} (new : ℕ → SlaveDef → A) where
   renewed_at_is asked s None items = refl
   renewed_at_is asked s (Some slave) items = refl
 
-  -- one that isn't asked for stays
-  pub renewed_not : (s : ℕ) (slave : Option SlaveDef) (items : List A) → items ≡ renewed_at false new s slave items
-  renewed_not s None items = refl
-  renewed_not s (Some slave) items = refl
-
   -- those that no test asks for are right already
   pub renewed_all : (test : ℕ → Bool) (old : ℕ → SlaveDef → A) → ((s : ℕ) (slave : SlaveDef) → test s ≡ false → old s slave ≡ new s slave)
       → (k : ℕ) (slaves : List SlaveDef) → renewed test new k slaves (placed old k slaves) ≡ placed new k slaves
@@ -114,80 +101,40 @@ module _ {A : Type 0} (new : ℕ → SlaveDef → A) where
 
   -- ---- row by row
 
-  -- one row more
-  pub among_next : (test : ℕ → Bool) (entries : List Entry) (k : ℕ) (entry : Entry) (s : ℕ) → slice_get entries k ≡ Some entry
-      → is_among test (take (k + 1) entries) s ≡ and_one (is_among test (take k entries)) (test entry.seed.master) entry.seed.slave s
-  among_next test entries k entry s at =
-      ap (list_any (is_on test s)) (take_next entries k entry at)
-      ∙ (list_any-append (is_on test s) (take k entries) (entry ∷ [])
-      ∙ ap (λ b. is_among test (take k entries) s || b) (or_none (is_on test s entry)))
+  -- ---- place by place
 
-  pub renewed_next : (test : ℕ → Bool) (entries : List Entry) (k : ℕ) (entry : Entry) (slaves : List SlaveDef) (start items after : List A) (asked : Bool) → slice_get entries k ≡ Some entry
-      → asked ≡ test entry.seed.master
-      → items ≡ renewed (is_among test (take k entries)) new 0 slaves start
-      → after ≡ renewed_at asked new entry.seed.slave (slice_get slaves entry.seed.slave) items
-      → after ≡ renewed (is_among test (take (k + 1) entries)) new 0 slaves start
-  renewed_next test entries k entry slaves start items after asked at is before written =
-      let s : ℕ = entry.seed.slave in
-      let was : ℕ → Bool = is_among test (take k entries) in
+  and_is : (b : Bool) → (b || false) ≡ (b && true)
+  and_is true = refl
+  and_is false = refl
+
+  -- one place more
+  pub in_next : (places : List ℕ) (k p s : ℕ) → slice_get places k ≡ Some p → is_in s (take (k + 1) places) ≡ (is_in s (take k places) || ((p == s) && true))
+  in_next places k p s at =
+      ap (is_in s) (take_next places k p at)
+      ∙ (list_any-append (λ j. j == s) (take k places) (p ∷ [])
+      ∙ ap (λ b. is_in s (take k places) || b) (and_is (p == s)))
+
+  pub renewed_place : (places : List ℕ) (k p : ℕ) (slaves : List SlaveDef) (start items after : List A) → slice_get places k ≡ Some p
+      → items ≡ renewed (λ s. is_in s (take k places)) new 0 slaves start
+      → after ≡ renewed_at true new p (slice_get slaves p) items
+      → after ≡ renewed (λ s. is_in s (take (k + 1) places)) new 0 slaves start
+  renewed_place places k p slaves start items after at before written =
+      let was : ℕ → Bool = λ s. is_in s (take k places) in
       written
-      ∙ (renewed_at_is asked s (slice_get slaves s) items
-      ∙ (ap (λ xs. write asked s s (slice_get slaves s) xs) before
-      ∙ (write_at was asked s 0 s slaves start (omega arith)
-      ∙ (ap (λ b. renewed (and_one was b s) new 0 slaves start) is
-      ∙ renewed_same (and_one was (test entry.seed.master) s) (is_among test (take (k + 1) entries)) 0 slaves start
-      (λ j from. sym (among_next test entries k entry j at))))))
+      ∙ (renewed_at_is true p (slice_get slaves p) items
+      ∙ (ap (λ xs. write true p p (slice_get slaves p) xs) before
+      ∙ (write_at was true p 0 p slaves start (omega arith)
+      ∙ renewed_same (and_one was true p) (λ s. is_in s (take (k + 1) places)) 0 slaves start
+      (λ j from. sym (in_next places k p j at)))))
 
--- ---- an item that is written as it was
-
-pub set_as_it_was : (items : List Bool) (s : ℕ) (now : Bool) → unwrap_or (slice_get items s) false ≡ now → slice_set items s now ≡ items
-set_as_it_was [] s now is = refl
-set_as_it_was (item ∷ items) zero now is = ap (λ b. b ∷ items) (sym is)
-set_as_it_was (item ∷ items) (suc s) now is = ap (λ more. item ∷ more) (set_as_it_was items s now is)
-
-pub same_so : (a b : Bool) → not (beq a b) ≡ false → a ≡ b
-same_so true true is = refl
-same_so true false is = cc
-same_so false true is = cc
-same_so false false is = refl
-
--- ---- the slaves on which no such row is
-
--- one row more, which isn't on this slave where it is asked for
-pub none_next : (test : ℕ → Bool) (entries : List Entry) (k : ℕ) (entry : Entry) (asked : Bool) (s : ℕ) → slice_get entries k ≡ Some entry
-    → asked ≡ test entry.seed.master
-    → is_among test (take k entries) s ≡ false
-    → (asked ≡ true → entry.seed.slave ≡ s → ⊥)
-    → is_among test (take (k + 1) entries) s ≡ false
-none_next test entries k entry asked s at is before apart =
-    among_next {A = ℕ} (λ s slave. 0) test entries k entry s at
-    ∙ (ap (λ b. b || ((entry.seed.slave == s) && test entry.seed.master)) before
-    ∙ (ap (λ b. (entry.seed.slave == s) && b) (sym is) ∙ by asked refl (entry.seed.slave == s) refl))
-  where
-    by : (a : Bool) → asked ≡ a → (e : Bool) → (entry.seed.slave == s) ≡ e → (e && asked) ≡ false
-    by a so false own = refl
-    by true so true own = absurd (apart so (eqb-true entry.seed.slave s own))
-    by false so true own = so
-
--- one row more, where each such slave is otherwise right
-pub right_next : (Right : Type 0) (test : ℕ → Bool) (entries : List Entry) (k : ℕ) (entry : Entry) (asked : Bool) (s : ℕ) → slice_get entries k ≡ Some entry
-    → asked ≡ test entry.seed.master
-    → (is_among test (take k entries) s ≡ false) ⊎ Right
-    → (asked ≡ true → entry.seed.slave ≡ s → is_among test (take k entries) s ≡ false → Right)
-    → (is_among test (take (k + 1) entries) s ≡ false) ⊎ Right
-right_next Right test entries k entry asked s at is before own = elim before [
-  | inl none ↦ by none asked refl (entry.seed.slave == s) refl
-  | inr right ↦ inr right
-]
-  where
-    by : is_among test (take k entries) s ≡ false → (a : Bool) → asked ≡ a → (e : Bool) → (entry.seed.slave == s) ≡ e → (is_among test (take (k + 1) entries) s ≡ false) ⊎ Right
-    by none true so true here = inr (own so (eqb-true entry.seed.slave s here) none)
-    by none false so e here = inl (none_next test entries k entry asked s at is none (λ yes same.
-        let no : false ≡ true = sym so ∙ yes in
-        cc))
-    by none true so false here = inl (none_next test entries k entry asked s at is none (λ yes same.
-        let no : false ≡ true = sym here ∙ eq-eqb entry.seed.slave s same in
-        cc))
+  -- by tests that agree on the slaves that there are the same are
+  pub renewed_within : (one two : ℕ → Bool) (k : ℕ) (slaves : List SlaveDef) (items : List A) → ((s : ℕ) → k ≤ s → s < k + length slaves → one s ≡ two s) → renewed one new k slaves items ≡ renewed two new k slaves items
+  renewed_within one two k [] items same = refl
+  renewed_within one two k (x ∷ slaves) [] same = refl
+  renewed_within one two k (x ∷ slaves) (item ∷ items) same =
+      ap (λ b. (if b then new k x else item) ∷ renewed one new (k + 1) slaves items) (same k (omega arith) (omega arith))
+      ∙ ap (λ more. (if two k then new k x else item) ∷ more)
+      (renewed_within one two (k + 1) slaves items (λ s from to. same s (omega (arith, from)) (omega (arith, to))))
 
 -- the item of a slave that no test asks for stays
 pub renewed_left : {A : Type 0} (new : ℕ → SlaveDef → A) (test : ℕ → Bool) (k i s : ℕ) (slaves : List SlaveDef) (items : List A) → s ≡ k + i → test s ≡ false
@@ -198,3 +145,18 @@ renewed_left new test k zero s (x ∷ slaves) (item ∷ items) is none =
     let here : k ≡ s = omega arith in
     ap (λ b. Some (if b then new k x else item)) (ap test here ∙ none)
 renewed_left new test k (suc i) s (x ∷ slaves) (item ∷ items) is none = renewed_left new test (k + 1) i s slaves items (omega arith) none
+
+-- one place more, where each such slave is otherwise right
+pub right_place : (Right : Type 0) (places : List ℕ) (k p s : ℕ) → slice_get places k ≡ Some p
+    → (is_in s (take k places) ≡ false) ⊎ Right
+    → (p ≡ s → is_in s (take k places) ≡ false → Right)
+    → (is_in s (take (k + 1) places) ≡ false) ⊎ Right
+right_place Right places k p s at before own = elim before [
+  | inl none ↦ by none (p == s) refl
+  | inr right ↦ inr right
+]
+  where
+    by : is_in s (take k places) ≡ false → (here : Bool) → (p == s) ≡ here → (is_in s (take (k + 1) places) ≡ false) ⊎ Right
+    by none true here = inr (own (eqb-true p s here) none)
+    by none false here =
+        inl (in_next {A = ℕ} (λ s slave. 0) places k p s at ∙ (ap (λ b. b || ((p == s) && true)) none ∙ ap (λ b. b && true) here))

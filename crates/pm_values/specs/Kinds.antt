@@ -1,5 +1,5 @@
 -- What the value of each unit is found by, and the units that rest in a step.
-use Rattle.std.specs.Prelude.{◌≡◌, ◌<◌, ℕ, ◌+◌, ◌*◌, ◌/◌, ◌%◌, ◌^◌, bit_or, Bool, true, false, not, List, length, slice_get, slice_set, unwrap_or, Some}
+use Rattle.std.specs.Prelude.{◌≡◌, ◌<◌, ℕ, ◌+◌, ◌*◌, ◌/◌, ◌%◌, ◌^◌, bit_or, Bool, true, false, not, List, length, slice_get, slice_set, unwrap_or, Option, Some, None}
 use Rattle.std.specs.Int.{bit_at}
 use Rattle.pm_topology.specs.declared.places.Kind.TheVariants.{Slave}
 use Rattle.pm_values.specs.declared.caches.UnitKind.{UnitKind}
@@ -18,6 +18,11 @@ rests_at awake k = not (unwrap_or (slice_get awake k) true)
 -- the unit at a place doesn't rest from now on
 abbrev pub woken_at : ℕ → List Bool → List Bool
 woken_at k awake = slice_set awake k true
+
+-- so does the one at this place, if there is one
+abbrev pub woken_in : Option ℕ → List Bool → List Bool
+woken_in None awake = awake
+woken_in (Some k) awake = woken_at k awake
 
 -- the bit of a place is set in the words, where each has sixty-four places
 abbrev pub with_bit : ℕ → List ℕ → List ℕ

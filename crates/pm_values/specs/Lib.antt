@@ -1,9 +1,8 @@
 pub mod Along
+pub mod Behind
 pub mod Caches
 pub mod Found
 pub mod Kinds
-pub mod ModeStep
 pub mod Notifications
 pub mod Starts
-pub mod Touches
 pub mod Turns

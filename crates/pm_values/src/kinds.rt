@@ -5,7 +5,7 @@ ghost use Rattle.pm_topology.specs.declared.places.Kind.TheVariants.{Slave};
 ghost use Rattle.pm_topology.specs.Units.{units_of};
 ghost use Rattle.pm_values.specs.declared.caches.UnitKind.TheVariants.{Entry};
 ghost use Rattle.pm_values.specs.Caches.{HaveStayed, ListedStay, has_stayed, kind_of_unit};
-ghost use Rattle.pm_values.specs.Kinds.{AreApart, AreHomes, AreIndexed, AreListed, RestLess, is_slave_or_line, rests_at, with_home, woken_at};
+ghost use Rattle.pm_values.specs.Kinds.{AreApart, AreHomes, AreIndexed, AreListed, RestLess, is_slave_or_line, rests_at, with_home, woken_at, woken_in};
 
 use crate::along::Along;
 use crate::caches::UnitKind;
@@ -107,6 +107,16 @@ impl Kinds {
         ensures awake { (k : ℕ) → rests_at self.new.awake k ≡ false }
     {
         self.awake.wake_all();
+    }
+
+    /// The unit at this place, if there is one, doesn't rest from now on.
+    pub(crate) fn wake_in(&mut self, place: Option<usize>)
+        ensures items { self.new.items ≡ self.old.items }
+        ensures awake { self.new.awake ≡ woken_in place self.old.awake }
+    {
+        if let Some(k) = place {
+            self.awake.wake(k);
+        }
     }
 
     /// The unit of the slave at a place doesn't rest from now on.

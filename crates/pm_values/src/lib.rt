@@ -3,20 +3,18 @@
 #![tactic(auto)]
 
 mod along;
+mod bringing;
 mod caches;
 mod choice;
 mod counters;
-mod following;
 mod found;
 mod kinds;
 mod laws;
 mod marks;
-mod mode_step;
 mod moves;
 mod needs;
 mod notifications;
 mod starts;
-mod touches;
 mod turns;
 mod values;
 
@@ -24,6 +22,5 @@ pub use along::{Along, log_modes};
 pub use caches::Caches;
 pub use laws::{values_are_fed, values_meet};
 pub use starts::Start;
-pub use touches::Touched;
 pub use turns::Turns;
 pub use values::{point, value, value_at};

@@ -1,12 +1,11 @@
 //! What each slave and each processor needs.
 
-ghost use Rattle.std.specs.Prelude.{◌≡◌, ◌<◌, ◌⊎◌, Some, ℕ, false, true, length, slice_get, slice_set};
+ghost use Rattle.std.specs.Prelude.{◌≡◌, ◌<◌, Some, ℕ, true, length, slice_get, slice_set};
 ghost use Rattle.pm_topology.specs.declared.places.Kind.TheVariants.{Slave};
-ghost use Rattle.pm_values.specs.Caches.{FollowNeeds, FollowRuns, renewed_at, use_of};
+ghost use Rattle.pm_values.specs.Caches.{FollowNeeds, FollowRuns, renewed_at};
 ghost use Rattle.pm_values.specs.declared.caches.UnitKind.TheVariants.{Entry};
 ghost use Rattle.pm_values.specs.Kinds.{rests_at};
-ghost use Rattle.pm_values.specs.ModeStep.{is_turned, renewed_after};
-ghost use Rattle.pm_values.specs.Touches.{is_as_kept};
+ghost use Rattle.pm_values.specs.Behind.{is_as_kept};
 ghost use Rattle.std.specs.Option.{option_copied};
 ghost use Rattle.pm_state.specs.Values as spec;
 ghost use Rattle.pm_state.specs.Values.{state_at, placed, chosen, need_of, run_of};
@@ -15,8 +14,7 @@ use crate::caches::UnitKind;
 use crate::choice::chosen_state;
 use crate::counters::put;
 use crate::kinds::Kinds;
-use crate::mode_step::ModeStep;
-use crate::notifications::{changes_use, freed};
+use crate::notifications::freed;
 use pm_base::at_or;
 use pm_power::Power;
 use pm_procs::is_awake;
@@ -80,43 +78,9 @@ pub(crate) fn choose_one(
     need
 }
 
-/// Chooses the states of the slaves on which a master has a row whose mode turned, and whether they need their power nodes
-/// then, which follow that. All other units rest, and those of these slaves that are as they are kept. The answer is whether
-/// it changed of one of these slaves that some master uses it, by what is kept of that.
-pub(crate) fn choose_turned(
-    step: &ModeStep,
-    used: &[bool],
-    kinds: &mut Kinds,
-    states: &mut [u32],
-    needs: &mut [bool],
-    power: &mut Power,
-) -> bool
-    requires states { length states.old ≡ length step.now.tables.now.fixed.topology.slaves }
-    requires needs { length needs.old ≡ length step.now.tables.now.fixed.topology.slaves }
-    ensures uses { result ≡ false → used.now ≡ renewed_after use_of step.now used.now }
-    ensures power { FollowNeeds needs.old needs.new power.old power.new }
-    ensures states { states.new ≡ renewed_after chosen step.now states.old }
-    ensures needs { needs.new ≡ renewed_after need_of step.now needs.old }
-    ensures kinds { kinds.new.items ≡ kinds.old.items }
-    ensures rests { (k s : ℕ) → slice_get kinds.old.items k ≡ Some (Entry (Slave s)) → rests_at kinds.new.awake k ≡ true
-        → (is_turned step.now s ≡ false) ⊎ (is_as_kept states.old used.now s step.now.tables.now ≡ true) }
-{
-    kinds.rest();
-    let tables = step.tables;
-    let mut changed = false;
-    for k in 0..tables.rows().len() {
-        let seed = tables.rows().entry(k).seed;
-        if step.has_turned(seed.master) {
-            choose_and_wake(tables, seed.slave, used, kinds, states, needs, power);
-            changed = changes_use(tables, changed, seed.slave, used);
-        }
-    }
-    changed
-}
-
 /// Writes the state that is chosen for the slave at a place, and whether it needs its power node then, which follows that.
 /// The slave doesn't rest unless it is as it is kept.
-fn choose_and_wake(
+pub(crate) fn choose_and_wake(
     tables: &Tables,
     s: usize,
     used: &[bool],

@@ -1,14 +1,12 @@
 //! What happens to nodes in a step: which change, and which have no users any more.
 
-ghost use Rattle.std.specs.Prelude.{◌≡◌, ◌+◌, ◌<◌, ◌≤◌, false, length, slice_get, slice_set, true};
+ghost use Rattle.std.specs.Prelude.{◌≡◌, ◌+◌, ◌<◌, ◌≤◌, false, length, slice_get, slice_set};
 ghost use Rattle.pm_values.specs.Caches.{freed_by, noticed_at, renewed_at, use_of};
 ghost use Rattle.pm_values.specs.Found.{with_more};
-ghost use Rattle.pm_values.specs.ModeStep.{renewed_after};
 ghost use Rattle.pm_values.specs.Notifications as spec;
 ghost use Rattle.pm_state.specs.Values.{placed};
 
 use crate::caches::UnitKind;
-use crate::mode_step::ModeStep;
 use pm_base::{BoundedList, NodeId, Unit, at_or};
 use pm_notify::{Note, Waiting};
 use pm_rows::Rows;
@@ -82,48 +80,8 @@ pub(crate) fn log_use(tables: &Tables, s: usize, used: &mut [bool])
     }
 }
 
-/// Whether that was so, or some master uses the slave at a place, where by what is kept none did, or the other way round.
-pub(crate) fn changes_use(tables: &Tables, so_far: bool, s: usize, used: &[bool]) -> bool
-    ensures before { result ≡ false → so_far ≡ false }
-    ensures here { result ≡ false → renewed_at true (use_of tables.now.now.core) s
-        (slice_get tables.now.fixed.topology.slaves s) used.now ≡ used.now }
-{
-    so_far || changes_use_of(tables, s, used)
-}
-
-/// Whether some master uses the slave at a place, where by what is kept none did, or the other way round.
-fn changes_use_of(tables: &Tables, s: usize, used: &[bool]) -> bool
-    ensures { result ≡ false → slice_set used.now s (spec.is_used s tables.now.now.core.rows) ≡ used.now }
-{
-    at_or(used, s, false) != is_used(s, tables.rows())
-}
-
-/// Writes whether some master uses each slave on which a master has a row whose mode turned, unless that changed of none.
-pub(crate) fn log_turned_uses_if(changed: bool, step: &ModeStep, used: &mut [bool])
-    requires places { length used.old ≡ length step.now.tables.now.fixed.topology.slaves }
-    requires still { changed ≡ false → used.old ≡ renewed_after use_of step.now used.old }
-    ensures { used.new ≡ renewed_after use_of step.now used.old }
-{
-    if changed {
-        log_turned_uses(step, used);
-    }
-}
-
-/// Writes whether some master uses each slave on which a master has a row whose mode turned.
-fn log_turned_uses(step: &ModeStep, used: &mut [bool])
-    requires { length used.old ≡ length step.now.tables.now.fixed.topology.slaves }
-    ensures { used.new ≡ renewed_after use_of step.now used.old }
-{
-    let tables = step.tables;
-    for k in 0..tables.rows().len() {
-        let seed = tables.rows().entry(k).seed;
-        let turns = step.has_turned(seed.master);
-        log_use_if(tables, turns, seed.slave, used);
-    }
-}
-
 /// Writes whether some master uses the slave at a place, if it is asked for.
-fn log_use_if(tables: &Tables, asked: bool, s: usize, used: &mut [bool])
+pub(crate) fn log_use_if(tables: &Tables, asked: bool, s: usize, used: &mut [bool])
     requires { length used.old ≡ length tables.now.fixed.topology.slaves }
     ensures { used.new ≡ renewed_at asked (use_of tables.now.now.core) s
         (slice_get tables.now.fixed.topology.slaves s) used.old }

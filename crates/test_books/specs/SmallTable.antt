@@ -1,4 +1,5 @@
--- The table of a small chip, in which number 8 is that of a master and of a power node that is none of its parts.
+-- The table of a small chip, in which the number 8 is both a master's node and a power node's, which is not a part of
+-- that master.
 use Rattle.std.specs.Prelude.{true, false, None, List, [], ◌∷◌}
 use Rattle.pm_topology.specs.declared.topology.SlaveDef.{SlaveDef}
 use Rattle.pm_topology.specs.declared.topology.ProcDef.{ProcDef}
@@ -8,7 +9,7 @@ use Rattle.pm_topology.specs.declared.topology.Topology.{Topology}
 use Rattle.pm_chip.specs.Chip.{node, power, proc, master}
 use Rattle.pm_chip.specs.Classes.{state}
 
--- a node that is held, and one below which nothing stands
+-- a held power node, and one with nothing below it
 abbrev pub powers : List PowerDef
 powers = power 100 None true 20 3000 ∷ power 8 None false 10 300 ∷ []
 

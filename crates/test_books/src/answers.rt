@@ -1,4 +1,4 @@
-//! What the sender of a message is answered.
+//! The answers to the senders of messages.
 
 use crate::desk::{Desk, settled};
 use crate::events::message;
@@ -8,8 +8,8 @@ use pm_ipi::Response;
 use std::alloc::Global;
 use std::test::Fail;
 
-/// What is answered to the sender: nothing, a drop, a reply of a status and three words, or an
-/// acknowledgement of a node with its status and operating point.
+/// An expected answer: none, a drop, a reply with a status and three words, or an acknowledgement with a node, its
+/// status and its operating point.
 #[derive(Clone, Copy)]
 pub enum Want {
     Silent,
@@ -18,7 +18,7 @@ pub enum Want {
     Ack(u32, u32, u32),
 }
 
-/// The answer to a sender.
+/// The expected answer to a sender, as the book gives it.
 fn answer_to(sender: u32, want: Want) -> Answer {
     let master = NodeId(sender);
     match want {
@@ -38,10 +38,10 @@ fn answer_to(sender: u32, want: Want) -> Answer {
     }
 }
 
-/// A message of a master, and the answer to it: the number of the call and its first arguments.
+/// A case: the master, the number of the call, its first four arguments, and the expected answer.
 pub type Case = (u32, u32, [u32; 4], Want);
 
-/// The place of the first message that is answered otherwise.
+/// The index of the first case with another answer.
 pub fn wrong_answer(desk: &mut Desk, cases: &[Case]) -> Option<usize> {
     for (place, (master, api, args, want)) in cases.iter().enumerate() {
         if desk.take(&message(*master, *api, *args)) != answer_to(*master, *want) {
@@ -51,7 +51,7 @@ pub fn wrong_answer(desk: &mut Desk, cases: &[Case]) -> Option<usize> {
     None
 }
 
-/// The place of the first message that is answered otherwise, over a settled book of an object of these words.
+/// The index of the first case with another answer, over a settled book of an object of these words.
 pub fn wrong_answer_over(
     alloc: Global,
     words: &[u32],

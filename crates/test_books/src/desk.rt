@@ -1,4 +1,4 @@
-//! A book with its outbox, on the heap.
+//! A book with its outbox, in a box.
 
 ghost use Rattle.std.specs.Prelude.{◌≡◌, [], IfOk};
 ghost use Rattle.pm_object.specs.Grammar.{IsObject};
@@ -15,7 +15,7 @@ use pm_topology::Topology;
 use std::alloc::Global;
 use std::test::Fail;
 
-/// The chip, of which callers need no more than what a book asks for.
+/// The chip's topology; its contract says only what a book asks for.
 pub fn chip(alloc: Global) -> Result<Topology, NoMemory>
     ensures formed { IfOk result IsWellFormed }
 {
@@ -30,7 +30,7 @@ pub struct Desk {
     ghost room: { HasRoomFor book out },
 }
 
-/// The book at load, on the heap, so that a caller holds no more than where it is.
+/// The book at load with its outbox, in a box, so that its holder is small.
 pub fn desk_with(alloc: Global, object: Object, chip: Topology) -> Result<Box<Desk>, NoMemory>
     requires formed { IsWellFormed chip }
     ensures chip { IfOk result (λ desk. desk.value.book.fixed.topology ≡ chip) }
@@ -39,7 +39,7 @@ pub fn desk_with(alloc: Global, object: Object, chip: Topology) -> Result<Box<De
     desk_beside(alloc, object, List::new(alloc), chip)
 }
 
-/// The book at load with attached objects, on the heap.
+/// The book at load with attached objects and its outbox, in a box.
 pub fn desk_beside(
     alloc: Global,
     object: Object,
@@ -66,15 +66,15 @@ pub fn desk_beside(
     }
 }
 
-/// A large value on the heap: what holds it drops one box at each of its exits, not the value's fields one by one. Where
-/// there is not enough memory the value is dropped here, at a type that is any.
+/// Puts a large value into a box. Its holder then drops one box at each exit, and not each field of the value.
+/// Without enough memory the value is dropped here, where its type is generic: that costs less to prove.
 pub fn boxed<T: Drop>(alloc: Global, value: T) -> Result<Box<T>, NoMemory>
     ensures { IfOk result (λ held. held.value ≡ value) }
 {
     Box::new(alloc, value).map_err(|_| NoMemory)
 }
 
-/// What these words are at an address.
+/// The content of these words, attached at an address.
 fn attached_at(alloc: Global, address: u32, words: &[u32]) -> Result<Attached, Fail> {
     let bytes = bytes_of(alloc, words)?;
     let content = match decode(alloc, &bytes) {
@@ -85,7 +85,7 @@ fn attached_at(alloc: Global, address: u32, words: &[u32]) -> Result<Attached, F
     Ok(Attached { address, content })
 }
 
-/// These words, each at its address, on the heap.
+/// The contents of these lists of words, each attached at its address, in a box.
 fn attached_of(alloc: Global, pieces: &[(u32, &[u32])]) -> Result<Box<List<Attached>>, Fail> {
     let mut attached = boxed(alloc, List::new(alloc))?;
     for (address, words) in pieces {
@@ -94,7 +94,7 @@ fn attached_of(alloc: Global, pieces: &[(u32, &[u32])]) -> Result<Box<List<Attac
     Ok(attached)
 }
 
-/// The book at load over an object of these words, where words are attached at addresses.
+/// The book at load over an object of these words, with words attached at addresses.
 pub fn desk_attached(
     alloc: Global,
     words: &[u32],
@@ -111,7 +111,7 @@ pub fn desk_attached(
     )?)
 }
 
-/// The object of these words, on the heap.
+/// The object of these words, in a box.
 pub fn object_of(alloc: Global, words: &[u32]) -> Result<Box<Object>, Fail>
     ensures formed { IfOk result (λ object. IsObject object.value) }
 {
@@ -120,7 +120,7 @@ pub fn object_of(alloc: Global, words: &[u32]) -> Result<Box<Object>, Fail>
     Ok(boxed(alloc, object)?)
 }
 
-/// The bytes of words, the lowest byte of each first.
+/// The bytes of these words, in little-endian order.
 pub fn bytes_of(alloc: Global, words: &[u32]) -> Result<Vec<u8>, Fail> {
     let mut bytes = Vec::new(alloc);
     for word in words {
@@ -136,7 +136,7 @@ pub fn desk_of(alloc: Global, words: &[u32]) -> Result<Box<Desk>, Fail> {
     Ok(desk_with(alloc, Box::into_inner(object), chip)?)
 }
 
-/// The book once master 1 has finished its initialization and master 7 is started.
+/// The book after master 1 has finished its initialization and master 7 is started.
 pub fn settled(alloc: Global, words: &[u32]) -> Result<Box<Desk>, Fail> {
     let mut desk = desk_of(alloc, words)?;
     desk.take(&message(1, 21, [0; 4]));
@@ -145,7 +145,7 @@ pub fn settled(alloc: Global, words: &[u32]) -> Result<Box<Desk>, Fail> {
 }
 
 impl Desk {
-    /// An event, and the answer to it.
+    /// Takes an event, and returns its answer.
     pub fn take(&mut self, event: &Event) -> Answer {
         self.book.step(event, &mut self.out);
         self.out.answer

@@ -1,8 +1,8 @@
-//! What happens to a book, in short.
+//! Short forms of the events of a book.
 
 use pm_base::{Event, Message, NodeId};
 
-/// A message of a master.
+/// A message of a master, with a fifth argument of 0.
 pub fn message(master: u32, api: u32, args: [u32; 4]) -> Event {
     let [a, b, c, d] = args;
     let message = Message {
@@ -15,8 +15,8 @@ pub fn message(master: u32, api: u32, args: [u32; 4]) -> Event {
     }
 }
 
-/// What happens: a master sends a call with its first arguments, a processor is booted at an address, one waits
-/// for an interrupt, a slave raises its interrupt, there is one at a processor itself, or time passes.
+/// An event in short: a call with its first arguments, a boot at an address, a wait of a processor, the interrupt of
+/// a slave or of a processor itself, or passing time.
 #[derive(Clone, Copy)]
 pub enum Trigger {
     Call(u32, u32, [u32; 4]),
@@ -27,7 +27,7 @@ pub enum Trigger {
     Tick(u32),
 }
 
-/// What happens, as an event of the book.
+/// The event of a short form.
 pub fn event_of(trigger: Trigger) -> Event {
     match trigger {
         Trigger::Call(master, api, args) => message(master, api, args),

@@ -1,5 +1,5 @@
-//! What tests of steps begin with and compare: a book with its outbox, what happens to it, and the tables that say what
-//! comes then. Each loop over a table answers the place of the first row that is wrong, which a test judges.
+//! The base of tests of steps: a book with its outbox, events in short, and tables of what follows. A loop over a
+//! table returns the index of the first wrong row, which the test asserts to be none.
 #![tactic(auto)]
 
 pub mod answers;

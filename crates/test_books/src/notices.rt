@@ -1,4 +1,4 @@
-//! Late replies and callbacks: what each step of a run tells, and to whom.
+//! Late replies and callbacks: what each step tells the masters.
 
 use crate::desk::{Desk, settled};
 use crate::events::{Trigger, event_of};
@@ -12,7 +12,7 @@ pub type Reply = (u32, u32);
 /// A callback: the master, the number and the arguments.
 pub type Call = (u32, u32, [u32; 4]);
 
-/// Whether these are the late replies, in order.
+/// Whether the outbox has exactly these late replies, in order.
 pub fn have_replied(out: &Outbox, replies: &[Reply]) -> bool {
     let late = out.late.as_slice();
     for (place, wanted) in replies.iter().enumerate() {
@@ -27,7 +27,7 @@ pub fn have_replied(out: &Outbox, replies: &[Reply]) -> bool {
     late.len() == replies.len()
 }
 
-/// Whether these are the callbacks, in order.
+/// Whether the outbox has exactly these callbacks, in order.
 pub fn have_called(out: &Outbox, callbacks: &[Call]) -> bool {
     let calls = out.callbacks.as_slice();
     for (place, wanted) in callbacks.iter().enumerate() {
@@ -42,10 +42,10 @@ pub fn have_called(out: &Outbox, callbacks: &[Call]) -> bool {
     calls.len() == callbacks.len()
 }
 
-/// What happens, and the late replies and the callbacks of the step, each in order.
+/// A row: an event, and the late replies and the callbacks of its step, each in order.
 pub type Notice = (Trigger, &'static [Reply], &'static [Call]);
 
-/// The place of the first step that tells otherwise.
+/// The index of the first row whose step tells something else.
 pub fn wrong_notice(desk: &mut Desk, notices: &[Notice]) -> Option<usize> {
     for (place, (trigger, late, calls)) in notices.iter().enumerate() {
         desk.take(&event_of(*trigger));
@@ -56,7 +56,7 @@ pub fn wrong_notice(desk: &mut Desk, notices: &[Notice]) -> Option<usize> {
     None
 }
 
-/// The place of the first step that tells otherwise, over a settled book of an object of these words.
+/// The index of the first row whose step tells something else, over a settled book of an object of these words.
 pub fn wrong_notice_over(
     alloc: Global,
     words: &[u32],

@@ -18,7 +18,7 @@ pub const UNUSED: Row = Row {
 /// A master, a slave, and its row.
 pub type RowCase = (u32, u32, Option<Row>);
 
-/// The place of the first pair that has another row.
+/// The index of the first case with another row.
 pub fn wrong_row(book: &Book, rows: &[RowCase]) -> Option<usize> {
     for (place, (master, slave, row)) in rows.iter().enumerate() {
         if book.row(NodeId(*master), NodeId(*slave)) != *row {
@@ -28,7 +28,7 @@ pub fn wrong_row(book: &Book, rows: &[RowCase]) -> Option<usize> {
     None
 }
 
-/// The place of the first node whose unit has another value.
+/// The index of the first node with another value.
 pub fn wrong_value(book: &Book, values: &[(u32, u32)]) -> Option<usize> {
     for (place, (number, value)) in values.iter().enumerate() {
         if book.value(Unit::Node(NodeId(*number))) != *value {

@@ -1,4 +1,5 @@
-//! A small chip, in which number 8 is that of a master and of a power node that is none of its parts.
+//! A small chip, in which the number 8 is both a master's node and a power node's, which is not a part of that
+//! master.
 
 ghost use Rattle.std.specs.Prelude.{◌≡◌, ◌++◌, ◌∷◌, [], None, IfOk};
 ghost use Rattle.pm_chip.specs.Chip.{master, power, proc};
@@ -9,10 +10,10 @@ use pm_base::{Caps, List, NoMemory, NodeId};
 use pm_topology::{MasterDef, PowerDef, ProcDef, SlaveDef, SlaveState, Topology};
 use std::alloc::Global;
 
-/// The place of the power node under which the processors and the slave stand.
+/// The place of the power node above the processors and the slave.
 const HELD: usize = 0;
 
-/// An object over it: masters 1 and 8, each of which may suspend 8, and slave 46, which 1 alone may use.
+/// An object for it: masters 1 and 8, each of which may ask 8 to suspend, and slave 46, which 1 alone may use.
 pub const SMALL_OBJECT: &[u32] = &[
     2, 2, 1, 0x101, 2, 1, 0x1, 100, 0x200, 0, 8, 0x200, 100, 0x200, 0, 0x102, 1, 46, 0, 0x1,
 ];
@@ -45,7 +46,7 @@ fn powers(alloc: Global) -> Result<List<PowerDef>, NoMemory>
     Ok(powers)
 }
 
-/// A power node with none above it, by its number, whether it is held, its figure and its latency.
+/// A power node without a parent, by its number, whether it is held, its figure and its latency.
 fn power(number: u32, held: bool, figure: u32, latency: u32) -> PowerDef
     ensures { result ≡ power number None held figure latency }
 {
@@ -68,7 +69,7 @@ fn procs(alloc: Global) -> Result<List<ProcDef>, NoMemory>
     Ok(procs)
 }
 
-/// A processor by its number, its figure and its latency.
+/// A processor, by its number, its figure and its latency.
 fn proc(number: u32, figure: u32, latency: u32) -> ProcDef
     ensures { result ≡ proc number 0 figure latency }
 {
@@ -110,7 +111,7 @@ fn masters(alloc: Global) -> Result<List<MasterDef>, NoMemory>
     Ok(masters)
 }
 
-/// Puts a master of one processor behind these, by the numbers of both.
+/// Appends a master with one processor, by the numbers of both.
 fn push_master(
     alloc: Global,
     masters: &mut List<MasterDef>,
@@ -122,7 +123,7 @@ fn push_master(
     masters.push(master(alloc, number, proc)?)
 }
 
-/// A master of one processor, by the numbers of both.
+/// A master with one processor, by the numbers of both.
 fn master(alloc: Global, number: u32, proc: u32) -> Result<MasterDef, NoMemory>
     ensures { IfOk result (λ made. made ≡ master number (record { 0 = proc } ∷ [])) }
 {

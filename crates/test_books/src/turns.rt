@@ -1,4 +1,4 @@
-//! Which processors start in a step, and which nodes move.
+//! The starts and the moves of a step.
 
 use crate::desk::{Desk, settled};
 use crate::events::{Trigger, event_of};
@@ -7,7 +7,7 @@ use pm_core::Outbox;
 use std::alloc::Global;
 use std::test::Fail;
 
-/// Whether these nodes moved, in order.
+/// Whether exactly these nodes moved, in order.
 pub fn have_moved(out: &Outbox, nodes: &[u32]) -> bool {
     let moved = out.moved.as_slice();
     for (place, node) in nodes.iter().enumerate() {
@@ -18,7 +18,7 @@ pub fn have_moved(out: &Outbox, nodes: &[u32]) -> bool {
     moved.len() == nodes.len()
 }
 
-/// Whether these processors started, each at its address.
+/// Whether exactly these processors started, each at its address.
 pub fn have_started(out: &Outbox, procs: &[(u32, u64)]) -> bool {
     let starts = out.starts.as_slice();
     for (place, wanted) in procs.iter().enumerate() {
@@ -33,10 +33,10 @@ pub fn have_started(out: &Outbox, procs: &[(u32, u64)]) -> bool {
     starts.len() == procs.len()
 }
 
-/// What happens, the processors that start, each at its address, and the nodes that move, each in order.
+/// A row: an event, the processors that start with their addresses, and the nodes that move, each in order.
 pub type Turn = (Trigger, &'static [(u32, u64)], &'static [u32]);
 
-/// The place of the first turn in which other processors start or other nodes move.
+/// The index of the first row with other starts or moves.
 pub fn wrong_turn(desk: &mut Desk, turns: &[Turn]) -> Option<usize> {
     for (place, (trigger, starts, moved)) in turns.iter().enumerate() {
         desk.take(&event_of(*trigger));
@@ -47,7 +47,7 @@ pub fn wrong_turn(desk: &mut Desk, turns: &[Turn]) -> Option<usize> {
     None
 }
 
-/// The place of the first wrong turn, over a settled book of an object of these words.
+/// The index of the first row with other starts or moves, over a settled book of an object of these words.
 pub fn wrong_turn_over(
     alloc: Global,
     words: &[u32],

@@ -1,4 +1,4 @@
-//! Cells whose reads are counted.
+//! Cells, whose reads are counted.
 
 ghost use Rattle.std.specs.Prelude.{◌≡◌, ◌+◌, ◌<◌, IfOk, length, replicate};
 
@@ -11,10 +11,10 @@ use std::process::Abort;
 use std::sync::ledger::{Blank, Ledger};
 use std::test::Fail;
 
-/// The cells of a table.
+/// The number of cells of a table.
 const CELLS: usize = 3;
 
-/// A cell that is written, with which value, and what is read of all cells then.
+/// A row: the index of a cell, the value written there, and the values of all cells after it.
 static WRITES: [(usize, u32, [u32; CELLS]); 7] = [
     (1, 9, [7, 9, 7]),
     (0, 4, [4, 9, 7]),
@@ -25,7 +25,7 @@ static WRITES: [(usize, u32, [u32; CELLS]); 7] = [
     (0, 7, [7, 0, 7]),
 ];
 
-/// Cells of 7.
+/// Three cells, each with the value 7.
 fn sevens(rt: &(impl Abort + AllocGlobal)) -> Result<Cells<u32>, NoMemory>
     ensures { IfOk result (λ cells. cells ≡ replicate 3 7) }
 {
@@ -43,7 +43,7 @@ fn read_all<L: Ledger>(cells: &Cells<u32>, steps: &mut Steps<L>) -> [u32; CELLS]
     [first, middle, last]
 }
 
-/// The first write after which other values are read.
+/// The index of the first write after which other values are read.
 fn wrong_write<L: Ledger>(cells: &mut Cells<u32>, blank: Blank) -> Option<usize>
     requires cells { length cells.old ≡ 3 }
     requires name { blank.name ≡ L.name }
@@ -70,7 +70,7 @@ fn a_cell_holds_what_was_written_last(rt: HostRuntime) -> Result<(), Fail> {
     Ok(())
 }
 
-/// What all cells hold before a write.
+/// The values of all cells before any write.
 fn first_values<L: Ledger>(cells: &Cells<u32>, blank: Blank) -> [u32; CELLS]
     requires cells { length cells.now ≡ 3 }
     requires name { blank.name ≡ L.name }

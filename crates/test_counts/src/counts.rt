@@ -1,4 +1,4 @@
-//! Counts whose changes are counted.
+//! Counts, whose changes are counted.
 
 ghost use Rattle.std.specs.Prelude.{◌≡◌, ◌+◌, ◌<◌, ◌∷◌, [], replicate};
 
@@ -9,7 +9,7 @@ use std::marker::Brand;
 use std::sync::ledger::{Blank, Ledger};
 use std::test::Fail;
 
-/// A count, whether one is added or taken away, and all counts then.
+/// A row: the index of a count, whether one is added or taken away, and all counts after it.
 static CHANGES: [(usize, bool, [u32; 3]); 10] = [
     (1, true, [0, 1, 0]),
     (1, true, [0, 2, 0]),
@@ -23,7 +23,7 @@ static CHANGES: [(usize, bool, [u32; 3]); 10] = [
     (2, false, [0, 0, 0]),
 ];
 
-/// Adds one or takes one away, where the count has room for it.
+/// Adds one to a count or takes one away, if the count has room for it.
 fn change<L: Ledger>(counts: &mut Counts, place: usize, on: bool, steps: &mut Steps<L>) {
     if place < counts.len() {
         if on && counts.value(place) < u32::MAX {
@@ -34,7 +34,7 @@ fn change<L: Ledger>(counts: &mut Counts, place: usize, on: bool, steps: &mut St
     }
 }
 
-/// Whether the counts are these.
+/// Whether the counts are exactly these.
 fn are(counts: &Counts, wanted: [u32; 3]) -> bool {
     counts.len() == 3
         && counts.value(0) == wanted[0]
@@ -42,7 +42,7 @@ fn are(counts: &Counts, wanted: [u32; 3]) -> bool {
         && counts.value(2) == wanted[2]
 }
 
-/// The first change after which the counts are others.
+/// The index of the first change after which the counts are others.
 fn wrong_change<L: Ledger>(counts: &mut Counts, blank: Blank) -> Option<usize>
     requires name { blank.name ≡ L.name }
     requires parts { blank.parts ≡ L.parts }
@@ -67,7 +67,7 @@ fn a_count_follows_what_is_added_and_taken_away(rt: HostRuntime) -> Result<(), F
     Ok(())
 }
 
-/// Adds two to the middle one of three counts and takes one away again: three steps.
+/// Adds two to the middle one of three counts, and takes one away again: three steps.
 fn up_and_down<L: Ledger>(counts: &mut Counts, steps: &mut Steps<L>)
     requires { counts.old ≡ replicate 3 0 }
     ensures counts { counts.new ≡ 0 ∷ 1 ∷ 0 ∷ [] }
@@ -78,7 +78,7 @@ fn up_and_down<L: Ledger>(counts: &mut Counts, steps: &mut Steps<L>)
     counts.sub(1, steps);
 }
 
-/// Adds and takes away so with a counter of its own.
+/// Does `up_and_down` with a counter of its own.
 fn turned<L: Ledger>(counts: &mut Counts, blank: Blank)
     requires counts { counts.old ≡ replicate 3 0 }
     requires name { blank.name ≡ L.name }

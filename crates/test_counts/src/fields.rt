@@ -1,4 +1,4 @@
-//! Which fields the rows have.
+//! The fields that rows have.
 
 ghost use Rattle.std.specs.Prelude.{◌≡◌, ◌<◌};
 
@@ -9,7 +9,7 @@ use std::marker::Brand;
 use std::sync::ledger::{Blank, Ledger};
 use std::test::Fail;
 
-/// Loads no rows, whose fields are named then.
+/// Loads rows without pairs: this names their fields.
 fn load_and_name<L: Ledger>(alloc: Global, blank: Blank) -> Result<(), NoMemory>
     requires name { blank.name ≡ L.name }
     requires parts { blank.parts ≡ L.parts }

@@ -1,4 +1,5 @@
-//! The rows of the book by their counts: what is wanted of a slave, and how many use it, after each call.
+//! The rows of the book by their counts: the requirements in force on a slave, and the number of its users, after
+//! each call.
 
 ghost use Rattle.std.specs.Prelude.{◌≡◌, ◌<◌};
 
@@ -25,7 +26,7 @@ enum Call {
     Clear,
 }
 
-/// A pair with these capabilities at the start of its master, and held or not.
+/// A pair that has these capabilities at the start of its master, held or not.
 fn pair(master: usize, slave: usize, preset: u32, hold: bool) -> RowSeed
     ensures { result.slave ≡ slave }
 {
@@ -44,8 +45,8 @@ fn pair(master: usize, slave: usize, preset: u32, hold: bool) -> RowSeed
     }
 }
 
-/// Three masters and two slaves. The first master is active from the load on, uses both slaves, and holds
-/// the second one. The pairs don't stand slave by slave.
+/// Rows of three masters and two slaves. The first master is active from the load on, uses both slaves, and holds the
+/// second one. The pairs aren't ordered by slave.
 fn loaded<L: Ledger>(alloc: Global, steps: &mut Steps<L>) -> Result<Rows, NoMemory> {
     let pairs = [
         pair(0, 0, 1, false),
@@ -71,8 +72,8 @@ fn carry_out<L: Ledger>(rows: &mut Rows, by: Call, steps: &mut Steps<L>) {
     }
 }
 
-/// What is wanted of a slave: the capabilities, the greatest latency that is allowed, and how many masters
-/// use it.
+/// The requirements in force on a slave: the capabilities and the greatest latency that is allowed; and the number of
+/// its users.
 pub(crate) type Told = (u32, Option<u32>, u32);
 
 pub(crate) fn told(rows: &Rows, slave: usize) -> Told {
@@ -80,7 +81,7 @@ pub(crate) fn told(rows: &Rows, slave: usize) -> Told {
     (wanted.caps.0, wanted.limit, rows.users(slave))
 }
 
-/// Calls one after another, and what is told of the two slaves after each.
+/// A row: a call, and the requirements and users of each of the two slaves after it.
 static CALLS: [(Call, Told, Told); 21] = [
     (Call::Settle(0), (1, None, 1), (2, None, 1)),
     (Call::Shift(1, Mode::Active), (5, None, 2), (2, None, 1)),
@@ -109,7 +110,7 @@ static CALLS: [(Call, Told, Told); 21] = [
     (Call::Clear, (0, None, 0), (0, None, 0)),
 ];
 
-/// The place of the first call after which something else is told.
+/// The index of the first call after which something else is found.
 fn wrong_call<L: Ledger>(rows: &mut Rows, steps: &mut Steps<L>) -> Option<usize> {
     for (place, (by, first, second)) in CALLS.iter().enumerate() {
         carry_out(rows, *by, steps);
@@ -120,7 +121,7 @@ fn wrong_call<L: Ledger>(rows: &mut Rows, steps: &mut Steps<L>) -> Option<usize>
     None
 }
 
-/// Loads the rows, carries the calls out, and stops where something else is told than should be.
+/// Loads the rows and makes each call. Fails the test if something else is found after one.
 fn call_each<L: Ledger>(rt: &(impl Abort + AllocGlobal), blank: Blank) -> Result<(), NoMemory>
     requires name { blank.name ≡ L.name }
     requires parts { blank.parts ≡ L.parts }

@@ -1,4 +1,4 @@
-//! What the change of one row costs, however many slaves there are.
+//! The cost of changing one row, however many slaves there are.
 
 ghost use Rattle.std.specs.Prelude.{◌≡◌, ◌+◌, ◌≤◌, ◌<◌, count_by};
 ghost use Rattle.pm_rows.specs.Counted.{permitted_on};
@@ -14,13 +14,13 @@ use std::process::Abort;
 use std::sync::ledger::{Blank, Ledger};
 use std::test::Fail;
 
-/// The masters, each of which may use each slave.
+/// The number of masters, each of which may use each slave.
 const MASTERS: usize = 4;
 
 /// The numbers of slaves.
 static SIZES: [usize; 3] = [58, 256, 512];
 
-/// A pair of a master and a slave with nothing at load.
+/// A pair of a master and a slave, without anything at load.
 fn pair(master: usize, slave: usize) -> RowSeed {
     RowSeed {
         master,
@@ -33,7 +33,7 @@ fn pair(master: usize, slave: usize) -> RowSeed {
     }
 }
 
-/// Adds the pairs of a slave with each master.
+/// Appends the pairs of a slave with each master.
 fn push_slave(pairs: &mut Vec<RowSeed>, slave: usize) -> Result<(), NoMemory> {
     for master in 0..MASTERS {
         pairs.push(pair(master, slave)).map_err(|_| NoMemory)?;
@@ -59,7 +59,7 @@ fn is_at(entry: &Entry, master: usize, slave: usize) -> bool
     entry.seed.master == master && entry.seed.slave == slave
 }
 
-/// How many rows a pair has, and how many there are on its slave.
+/// The number of rows of a pair, and the number of rows on its slave.
 fn rows_of(rows: &Rows, master: usize, slave: usize) -> (usize, usize)
     ensures own { result.0 ≡ count_by (is_at master slave) rows.now.entries }
     ensures all { result.1 ≡ permitted_on slave rows.now.entries }
@@ -74,8 +74,8 @@ fn rows_of(rows: &Rows, master: usize, slave: usize) -> (usize, usize)
     (own, all)
 }
 
-/// Changes the row of a pair that has one, on a slave of four masters: 12 steps at most, whatever else there
-/// is.
+/// Changes the row of a pair, if it is the only one of the pair and one of four on its slave: at most 12 steps,
+/// whatever else there is. Returns whether it is so.
 fn change<L: Ledger>(
     rows: &mut Rows,
     master: usize,
@@ -99,7 +99,7 @@ fn change<L: Ledger>(
     true
 }
 
-/// Changes of the rows on one slave, by the place of the master, and what is told of the slave after each.
+/// A row: the place of a master, a change of its row on one slave, and what is in force on the slave after it.
 static CHANGES: [(usize, Change, Told); 10] = [
     (0, Change::Request(Caps(1)), (1, None, 1)),
     (3, Change::Request(Caps(4)), (5, None, 2)),
@@ -113,7 +113,8 @@ static CHANGES: [(usize, Change, Told); 10] = [
     (3, Change::Release, (0, None, 0)),
 ];
 
-/// The first change after which something else is told of its slave, or anything of the one before it.
+/// The index of the first change after which something else is found on its slave, or anything on the slave before
+/// it.
 fn wrong_change<L: Ledger>(rows: &mut Rows, slave: usize, steps: &mut Steps<L>) -> Option<usize>
     requires slave { 0 < slave }
 {
@@ -128,7 +129,7 @@ fn wrong_change<L: Ledger>(rows: &mut Rows, slave: usize, steps: &mut Steps<L>) 
     None
 }
 
-/// Makes the changes over each number of slaves, and stops where something else is told than should be.
+/// Makes the changes over each number of slaves. Fails the test if something else is found after one.
 fn change_each<L: Ledger>(rt: &(impl Abort + AllocGlobal), blank: Blank) -> Result<(), NoMemory>
     requires name { blank.name ≡ L.name }
     requires parts { blank.parts ≡ L.parts }

@@ -1,10 +1,9 @@
-//! What a run is asked for.
+//! The inputs of a run.
 
 use std::alloc::{AllocError, Global};
 
-/// What is asked for: the words with one space between them, the words of the input `obj`, the bytes of
-/// the input `script`, the bytes at which reads fail, of `obj` at place 0, of `script` at place 1 and of `topo` at
-/// place 2, and the bytes of the input `topo`.
+/// A run: its words, with one space between them; the words of the input `obj`; the bytes of the input `script`; the
+/// bytes at which reads fail, of `obj`, `script` and `topo` in this order; and the bytes of the input `topo`.
 #[derive(Clone, Copy)]
 pub struct Asked<'a> {
     pub words: &'a str,
@@ -25,7 +24,7 @@ pub fn replay_of<'a>(object: &'a [u32], script: &'a [u8]) -> Asked<'a> {
     }
 }
 
-/// Texts in their order, as one.
+/// These texts joined in their order.
 pub fn joined(alloc: Global, texts: &[&str]) -> Result<Vec<u8>, AllocError> {
     let mut whole = Vec::new(alloc);
     for text in texts {

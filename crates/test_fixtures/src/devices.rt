@@ -11,20 +11,20 @@ use pm_device::{ListedDevice, ModelDevice};
 use pm_topology::Topology;
 use std::alloc::Global;
 
-/// A large value on the heap: what holds it drops one box at each of its exits, not the value's fields one by one. Where
-/// there is not enough memory the value is dropped here, at a type that is any.
+/// Puts a large value into a box. Its holder then drops one box at each exit, and not each field of the value.
+/// Without enough memory the value is dropped here, where its type is generic: that costs less to prove.
 fn boxed<T: Drop>(alloc: Global, value: T) -> Result<Box<T>, NoMemory>
     ensures { IfOk result (λ held. held.value ≡ value) }
 {
     Box::new(alloc, value).map_err(|_| NoMemory)
 }
 
-/// The chip, of which nothing is said.
+/// The chip's topology, without a contract: the tests need none.
 fn chip(alloc: Global) -> Result<Box<Topology>, NoMemory> {
     boxed(alloc, zynqmp(alloc)?)
 }
 
-/// A device that doesn't fail, and stands at 0.
+/// A device that doesn't fail, with all units at 0.
 pub fn model(alloc: Global) -> Result<Box<ModelDevice>, NoMemory>
     ensures { IfOk result (λ device. (unit : Unit) → (moment_of device.value).value unit ≡ 0) }
 {
@@ -32,7 +32,7 @@ pub fn model(alloc: Global) -> Result<Box<ModelDevice>, NoMemory>
     boxed(alloc, ModelDevice::new(alloc, &chip)?)
 }
 
-/// A device that fails the commands with these numbers, and stands at 0.
+/// A device that fails the commands with these numbers, with all units at 0.
 pub fn listed(alloc: Global, failing: &[u32]) -> Result<Box<ListedDevice>, NoMemory>
     ensures { IfOk result (λ device. (unit : Unit) → (listed_moment device.value).value unit ≡ 0) }
 {
@@ -40,7 +40,7 @@ pub fn listed(alloc: Global, failing: &[u32]) -> Result<Box<ListedDevice>, NoMem
     boxed(alloc, ListedDevice::new(alloc, &chip, failing)?)
 }
 
-/// The unit of a node.
+/// A node as a unit.
 pub fn node(number: u32) -> Unit {
     Unit::Node(NodeId(number))
 }

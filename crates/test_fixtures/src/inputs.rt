@@ -1,11 +1,11 @@
-//! The words and the inputs of a run.
+//! The words and the inputs of a run, in memory.
 
 use crate::asked::Asked;
 use pm_base::NoMemory;
 use pm_io::MemInputs;
 use std::alloc::{AllocError, Global};
 
-/// The bytes of words, the lowest byte of each first.
+/// The bytes of these words, in little-endian order.
 pub fn bytes_of(alloc: Global, words: &[u32]) -> Result<Vec<u8>, AllocError> {
     let mut bytes = Vec::new(alloc);
     for word in words {
@@ -14,7 +14,7 @@ pub fn bytes_of(alloc: Global, words: &[u32]) -> Result<Vec<u8>, AllocError> {
     Ok(bytes)
 }
 
-/// Puts an input in under a name, unless there is one.
+/// Adds an input under a name, unless there is one already.
 pub fn put(inputs: &mut MemInputs, name: &str, content: &[u8]) -> Result<(), NoMemory> {
     if !inputs.has(name) {
         inputs.add(name, content)?;
@@ -22,7 +22,7 @@ pub fn put(inputs: &mut MemInputs, name: &str, content: &[u8]) -> Result<(), NoM
     Ok(())
 }
 
-/// The inputs `obj`, `script` and `topo` of what is asked for.
+/// The inputs `obj`, `script` and `topo` of a run.
 pub fn inputs_of(alloc: Global, asked: &Asked) -> Result<Box<MemInputs>, NoMemory> {
     let object = bytes_of(alloc, asked.object).map_err(|_| NoMemory)?;
     let mut inputs = Box::new(alloc, MemInputs::new(alloc, asked.failing)?).map_err(|_| NoMemory)?;
@@ -32,7 +32,7 @@ pub fn inputs_of(alloc: Global, asked: &Asked) -> Result<Box<MemInputs>, NoMemor
     Ok(inputs)
 }
 
-/// The words of what is asked for.
+/// The words of a run.
 pub fn words_of(alloc: Global, words: &str) -> Result<Vec<String>, AllocError> {
     let mut texts = Vec::new(alloc);
     for word in words.split_whitespace() {

@@ -1,4 +1,4 @@
-//! What runs of the top call take in tests, in memory: what is asked for, inputs, objects and devices. It asserts nothing.
+//! The parts of runs of the top call in tests, in memory: words, inputs, objects and devices. Nothing here asserts.
 #![tactic(auto)]
 
 pub mod asked;

@@ -1,11 +1,11 @@
-//! The objects of several runs, as words, and what a run over the smallest writes.
+//! The objects of several runs, as words, and the text of a run over the smallest.
 
 /// Two masters, and the two slaves 11 and 33, of which 11 can be shared.
 pub const OBJECT: &[u32] = &[
     2, 2, 1, 0x101, 2, 1, 0x1, 100, 0, 0, 7, 0x100, 100, 0, 0, 0x102, 2, 11, 1, 0x101, 33, 0, 0x1,
 ];
 
-/// What a run over it writes at load, and its closing table where nothing moves after that.
+/// The text of its load, and its closing table if nothing moves after that.
 pub const OBJECT_LOADED: &str = "0 set 10 0 1
 0 set 62 0 1
 0 set 1 0 1
@@ -23,15 +23,15 @@ end slave 33 1 1
 end power 62 1 1
 ";
 
-/// Two masters, of which only 1 may use slave 33 and each may use 28, 39, 11 and 46; the last two can
-/// be shared. There are masks of a power node and of a reset line.
+/// Two masters. Only 1 may use slave 33; each may use 28, 39, 11 and 46, and the last two can be shared. There are
+/// masks of a power node and of a reset line.
 pub const LABORATORY: &[u32] = &[
     2, 4, 1, 0x101, 2, 1, 0x1, 100, 0x100, 0x100, 7, 0x100, 100, 0, 0, 0x102, 5, 11, 1, 0x101, 28,
     0, 0x101, 33, 0, 0x1, 39, 0, 0x101, 46, 1, 0x101, 0x104, 1, 10, 0x100, 0x105, 1, 33, 0x1,
 ];
 
-/// What a run over it writes at load: the first processor of master 1 starts, and each slave that master 1 may use is held in
-/// its last state.
+/// The text of its load: the first processor of master 1 starts, and each slave that master 1 may use is held in its
+/// last state.
 pub const LABORATORY_LOADED: &str = "0 set 10 0 1
 0 set 62 0 1
 0 set 1 0 1
@@ -44,7 +44,7 @@ pub const LABORATORY_LOADED: &str = "0 set 10 0 1
 0 run 2 0
 ";
 
-/// What it then writes of the line `ipi 1 21`: master 1 has finished its initialization, and uses no slave.
+/// The text of the line `ipi 1 21` after that: master 1 has finished its initialization, and uses no slave.
 pub const LABORATORY_SETTLED: &str = "1 set 11 2 0
 1 set 28 1 0
 1 set 33 1 0
@@ -56,7 +56,7 @@ pub const LABORATORY_SETTLED: &str = "1 set 11 2 0
 /// One master, the first real-time processor, which may use no slave.
 pub const ALONE: &[u32] = &[2, 1, 1, 0x101, 1, 7, 0x100, 100, 0, 0];
 
-/// What a run over the object of one master writes at load, and its closing table.
+/// The text of its load, and its closing table.
 pub const STARTED: &str = "0 set 62 0 1\n0 set 6 0 1\n0 set 7 0 1\n0 run 7 0\n";
 
 pub const STANDS: &str = "end power 6 1 1\nend proc 7 1 1\nend power 62 1 1\n";
@@ -68,7 +68,7 @@ pub const BOXES: &[u32] = &[
     0x7, 33, 0, 0x7, 0x104, 1, 10, 0x1, 0x106, 1, 1, 0x1,
 ];
 
-/// What a run over it writes at load and of its first line, `ipi 1 21`.
+/// The text of its load and of its first line, `ipi 1 21`.
 pub const BOXES_SETTLED: &str = "0 set 10 0 1
 0 set 62 0 1
 0 set 1 0 1
@@ -81,22 +81,22 @@ pub const BOXES_SETTLED: &str = "0 set 10 0 1
 1 reply 1 0 0 0 0
 ";
 
-/// The closing table of a run over it that leaves all as it is after that line.
+/// Its closing table if nothing changes after that line.
 pub const BOXES_CLOSED: &str = "end power 1 1 1
 end proc 2 1 1
 end power 10 1 1
 end power 62 1 1
 ";
 
-/// The real-time processors as two masters, of which the second may use a slave of each class, in each power
-/// domain: the memory 15 in the processors' own domain, the peripherals 28 and 42 below FPD and 33 below LPD,
-/// the external interrupts 49, the dynamic memory 55 below FPD and the block 63 below PLD.
+/// The real-time processors as two masters. The second may use a slave of each class in each power domain: the memory
+/// 15 in the processors' own domain, the peripherals 28 and 42 below FPD and 33 below LPD, the external interrupts
+/// 49, the dynamic memory 55 below FPD, and the block 63 below PLD.
 pub const DOMAINS: &[u32] = &[
     2, 2, 1, 0x101, 2, 8, 0x200, 100, 0, 0, 7, 0x100, 100, 0, 0, 0x102, 7, 15, 1, 0x100, 28, 1,
     0x100, 33, 1, 0x100, 42, 1, 0x100, 49, 1, 0x100, 55, 1, 0x100, 63, 1, 0x100,
 ];
 
-/// The text of a small topology, which has a slave that the chip doesn't have.
+/// The text of a small topology with a slave that the chip lacks.
 pub const SMALL_TOPOLOGY: &str = "power 62 none 1 20 3000
 power 1 62 0 30 500
 proc 2 1 300 400
@@ -112,11 +112,11 @@ owner 7 7
 owner 8 8
 ";
 
-/// An object of a master over it that may use the slave, and has it at first.
+/// An object for it, whose master may use the slave, and has it at the start.
 pub const SMALL: &[u32] = &[2, 2, 1, 257, 1, 1, 1, 100, 0, 0, 258, 1, 100, 1, 1];
 
-/// Three masters, each of which may use every slave of the chip and may force and reset some nodes and lines. It has all
-/// sections.
+/// Three masters, each of which may use every slave of the chip, and may force and reset some nodes and lines. The
+/// object has all sections.
 pub const USUAL: &[u32] = &[
     2, 8, 1, 0x101, 3, 1, 1, 0xFFFFFFFF, 0x301, 0x301, 7, 0x100, 0xFFFFFFFF, 0x301, 0x301, 8,
     0x200, 0xFFFFFFFF, 0x301, 0x301, 0x102, 58, 11, 1, 0x301, 12, 1, 0x301, 13, 1, 0x301, 14, 1,

@@ -7,7 +7,7 @@ use std::alloc::Global;
 use std::process::Abort;
 use std::test::Fail;
 
-/// Says something else to each word: status 7, the word, its double and the fifth argument.
+/// A handler with another response to each word: status 7, the word, its double and the fifth argument.
 #[derive(Drop)]
 struct Telling;
 
@@ -28,7 +28,7 @@ impl Responder for Telling {
     }
 }
 
-/// Says status 0 and a word, whatever it is asked.
+/// A handler with one response to all: status 0 and a word.
 #[derive(Drop)]
 struct Constant {
     word: u32,
@@ -47,12 +47,12 @@ impl Responder for Constant {
     }
 }
 
-/// Stops where a table has a wrong row: `wrong` is the place of the first one.
+/// Fails the test if a table has a wrong row; `wrong` is the index of the first one.
 fn all_right(rt: &impl Abort, wrong: Option<usize>) {
     assert_eq!(rt; wrong, None);
 }
 
-/// What adding a module comes to.
+/// The outcome of adding a module.
 #[derive(Clone, Copy, Debug, PartialEq, Eq)]
 enum Added {
     Done,
@@ -68,7 +68,7 @@ fn result_of(adding: Result<(), AddError>) -> Added {
     }
 }
 
-/// A module of these words that says a constant is added.
+/// Adds a module that responds to these words with a constant word.
 fn add(
     alloc: Global,
     modules: &mut Modules,
@@ -93,7 +93,7 @@ fn programs_modules(alloc: Global) -> Result<Modules, NoMemory> {
     Ok(modules)
 }
 
-/// A word with its arguments, and the status and the words that it is answered.
+/// A row: an API word, its arguments, and the status and words of the response, if a module answers it.
 type Row = (u32, [u32; 5], Option<(u32, [u32; 3])>);
 
 static PROGRAMS: [Row; 12] = [
@@ -120,7 +120,7 @@ fn status_and_words(response: Response) -> (u32, [u32; 3]) {
     (response.status, words)
 }
 
-/// The place of the first word that is answered otherwise.
+/// The index of the first row with another response.
 fn wrong_answer(modules: &Modules, rows: &[Row]) -> Option<usize> {
     for (place, (api, args, expected)) in rows.iter().enumerate() {
         let message = Message {
@@ -162,7 +162,7 @@ fn a_handler_may_say_something_else_to_each_word(rt: HostRuntime) -> Result<(), 
     Ok(())
 }
 
-/// Ranges that are added one after the other, and what each comes to. The word that a range answers is its place.
+/// Ranges that are added one after another, with the outcome of each. The word in a range's response is its index.
 static RANGES: [((u32, u32), Added); 22] = [
     ((300, 310), Added::Done),
     ((290, 299), Added::Done),
@@ -188,7 +188,7 @@ static RANGES: [((u32, u32), Added); 22] = [
     ((290, 290), Added::Overlaps),
 ];
 
-/// The place of the first range that comes to something else.
+/// The index of the first range with another outcome.
 fn wrong_range(alloc: Global, modules: &mut Modules) -> Result<Option<usize>, NoMemory> {
     let mut word = 0u32;
     for (place, (range, expected)) in RANGES.iter().enumerate() {

@@ -1,4 +1,4 @@
-//! Tasks over lists of events.
+//! Timed tasks over lists of events.
 
 ghost use Rattle.std.specs.Prelude.{◌≡◌, ◌<◌, ◌^◌, [], length, IfOk, Some};
 ghost use Rattle.pm_tasks.specs.Stored.{timetable};
@@ -8,7 +8,7 @@ use pm_tasks::{Counter, Fired, Handler, Happening, Line, Tasks, run};
 use std::alloc::Global;
 use std::test::Fail;
 
-/// Tasks with this many counting handlers, all stopped. Their keys are 0 and those that follow.
+/// So many tasks whose handlers count their calls, all stopped. Their keys are 0 and up.
 fn counting(alloc: Global, count: usize) -> Result<Tasks, NoMemory>
     ensures settled { IfOk result (λ tasks. (timetable ⟦<Box<dyn Handler> as Handler>⟧ tasks).left ≡ []) }
     ensures start { IfOk result (λ tasks. (timetable ⟦<Box<dyn Handler> as Handler>⟧ tasks).now ≡ 0) }
@@ -21,7 +21,7 @@ fn counting(alloc: Global, count: usize) -> Result<Tasks, NoMemory>
     Ok(tasks)
 }
 
-/// A handler of its own: it keeps the time of its last call, and its count goes on past the end of a word.
+/// A handler of the tests. It keeps the time of its last call, and its count wraps around at the end of a word.
 #[derive(Drop)]
 struct Noting {
     calls: u32,
@@ -40,7 +40,7 @@ impl Handler for Noting {
     }
 }
 
-/// A counting task under key 0, and under key 1 one of the test's own that was called this often.
+/// A counting task under key 0, and one with the tests' own handler under key 1, which was called so often before.
 fn with_noting(alloc: Global, calls: u32) -> Result<Tasks, NoMemory>
     ensures settled { IfOk result (λ tasks. (timetable ⟦<Box<dyn Handler> as Handler>⟧ tasks).left ≡ []) }
     ensures start { IfOk result (λ tasks. (timetable ⟦<Box<dyn Handler> as Handler>⟧ tasks).now ≡ 0) }
@@ -53,7 +53,7 @@ fn with_noting(alloc: Global, calls: u32) -> Result<Tasks, NoMemory>
     Ok(tasks)
 }
 
-/// The lines that events write of this many counting handlers.
+/// The lines of these events over so many counting tasks.
 fn lines_of(alloc: Global, count: usize, events: &[Happening]) -> Result<Vec<Line>, NoMemory>
     requires { length events.now < 2 ^ 31 }
 {
@@ -87,7 +87,7 @@ fn a_task_is_due_once_in_a_tick(rt: HostRuntime) -> Result<(), Fail> {
     Ok(())
 }
 
-/// What the tasks at intervals of 1, 9, 10, 11 and the greatest come to.
+/// The calls of tasks with the intervals 1, 9, 10, 11 and the greatest.
 fn of_intervals() -> [Line; 25] {
     [
         Line::NoTask(5),
@@ -220,7 +220,7 @@ fn a_handler_of_the_test_is_called_beside_a_counting_one(rt: HostRuntime) -> Res
     Ok(())
 }
 
-/// Whether these are the first calls of thirty tasks at a time, by rising key.
+/// Whether these are the first calls of thirty tasks at this time, by rising key.
 fn are_thirty_calls(lines: &[Line], at: u64) -> bool {
     for (key, line) in lines.iter().enumerate() {
         if *line != fired(key, at, 1) {

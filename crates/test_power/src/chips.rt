@@ -28,7 +28,7 @@ fn chip(
     }
 }
 
-/// The masters by number, and the processor that each has.
+/// The masters by number, each with its processor.
 static MASTERS: [(u32, u32); 4] = [(1, 1), (6, 2), (7, 3), (8, 4)];
 
 /// The masters of each chip.
@@ -45,7 +45,7 @@ fn masters(alloc: Global) -> Result<List<MasterDef>, NoMemory> {
     Ok(list)
 }
 
-/// A power node by its number, its parent's place, and whether it is held.
+/// A power node, by its number, its parent's place, and whether it is held.
 fn power(number: u32, parent: Option<usize>, held: bool) -> PowerDef
     ensures { result ≡ power number parent held 1 10 }
 {
@@ -58,7 +58,7 @@ fn power(number: u32, parent: Option<usize>, held: bool) -> PowerDef
     }
 }
 
-/// A processor by its number and its parent's place.
+/// A processor, by its number and its parent's place.
 fn proc(number: u32, parent: usize) -> ProcDef
     ensures { result ≡ proc number parent 2 20 }
 {
@@ -106,8 +106,8 @@ fn chain_procs(alloc: Global) -> Result<List<ProcDef>, NoMemory>
     Ok(list)
 }
 
-/// The power nodes of the tree by number, parent's place, and whether they are held: two trees, of which the
-/// second one is held from below.
+/// The power nodes of two trees, by number, parent's place, and whether they are held. A node at the bottom holds up
+/// the second tree.
 static TREE: [(u32, Option<usize>, bool); 7] = [
     (10, None, false),
     (11, Some(0), false),

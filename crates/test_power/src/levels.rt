@@ -1,4 +1,4 @@
-//! What a need costs at each level of a chain.
+//! The cost of a need at each level of a chain.
 
 ghost use Rattle.std.specs.Prelude.{◌≡◌, ◌+◌, ◌≤◌, ◌<◌, [], false, true, IfOk};
 ghost use Rattle.test_power.specs.Chain.{children, powers, procs};
@@ -12,7 +12,7 @@ use std::process::Abort;
 use std::sync::ledger::{Blank, Ledger};
 use std::test::Fail;
 
-/// The processor at the top needs its power node: one count at most changes.
+/// The processor at the top needs its power node: at most one count changes.
 fn need_at_the_top<L: Ledger>(power: &mut Power, steps: &mut Steps<L>)
     requires powers { power.old.powers ≡ powers }
     requires children { power.old.children ≡ children false false false false }
@@ -23,7 +23,7 @@ fn need_at_the_top<L: Ledger>(power: &mut Power, steps: &mut Steps<L>)
     power.need(NodeId(1), true, steps);
 }
 
-/// That at the bottom does too: four at most.
+/// The processor at the bottom needs its power node: at most four counts change.
 fn need_at_the_bottom<L: Ledger>(power: &mut Power, steps: &mut Steps<L>)
     requires powers { power.old.powers ≡ powers }
     requires children { power.old.children ≡ children true false false false }
@@ -34,7 +34,7 @@ fn need_at_the_bottom<L: Ledger>(power: &mut Power, steps: &mut Steps<L>)
     power.need(NodeId(4), true, steps);
 }
 
-/// The needs in the middle come: two and three at most.
+/// The processors in the middle need theirs: at most two and three counts change.
 fn needs_in_the_middle<L: Ledger>(power: &mut Power, steps: &mut Steps<L>)
     requires powers { power.old.powers ≡ powers }
     requires children { power.old.children ≡ children true false false true }
@@ -46,7 +46,7 @@ fn needs_in_the_middle<L: Ledger>(power: &mut Power, steps: &mut Steps<L>)
     power.need(NodeId(3), true, steps);
 }
 
-/// The need of a power node, and of a number that no node has: none.
+/// A need of a power node, and one of a number that no node has: no count changes.
 fn needs_of_others<L: Ledger>(power: &mut Power, steps: &mut Steps<L>)
     requires powers { power.old.powers ≡ powers }
     requires children { power.old.children ≡ children true true true true }
@@ -58,7 +58,7 @@ fn needs_of_others<L: Ledger>(power: &mut Power, steps: &mut Steps<L>)
     power.need(NodeId(5), false, steps);
 }
 
-/// All of these, one after the other.
+/// All of these needs, one after another.
 fn needs_at_each_level<L: Ledger>(power: &mut Power, blank: Blank)
     requires powers { power.old.powers ≡ powers }
     requires children { power.old.children ≡ children false false false false }

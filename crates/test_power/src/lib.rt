@@ -1,4 +1,4 @@
-//! Tests of the power nodes by their use counts.
+//! Tests of power nodes by their use counts.
 #![tactic(auto)]
 
 #[cfg(test)]

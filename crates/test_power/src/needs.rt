@@ -1,4 +1,4 @@
-//! Which power nodes are up as needs come and go.
+//! The power nodes that are up as needs come and go.
 
 ghost use Rattle.std.specs.Prelude.{◌≡◌, ◌<◌};
 
@@ -12,7 +12,8 @@ use std::process::Abort;
 use std::sync::ledger::{Blank, Ledger};
 use std::test::Fail;
 
-/// A node, its need, which processors need their power nodes then, and which places of power nodes are up.
+/// A row: a node and its need, and then the processors that need their power nodes, and the places of the power nodes
+/// that are up.
 type Step = (u32, bool, &'static [u32], &'static [usize]);
 
 static CHAIN_WALK: [Step; 19] = [
@@ -65,7 +66,7 @@ static POWERS: [u32; 7] = [10, 11, 12, 13, 14, 15, 16];
 /// The numbers of the processors.
 static PROCS: [u32; 6] = [1, 2, 3, 4, 5, 6];
 
-/// Whether just the power nodes at these places are up.
+/// Whether exactly the power nodes at these places are up.
 fn are_up(power: &Power, places: &[usize]) -> bool {
     for (place, up) in power.ups().iter().enumerate() {
         if *up != places.contains(&place) {
@@ -75,7 +76,7 @@ fn are_up(power: &Power, places: &[usize]) -> bool {
     true
 }
 
-/// Whether just the power nodes at these places need their parents.
+/// Whether exactly the power nodes at these places need their parents.
 fn powers_need(power: &Power, places: &[usize]) -> bool {
     for (place, number) in POWERS.iter().enumerate() {
         if power.needs(NodeId(*number)) != places.contains(&place) {
@@ -85,7 +86,7 @@ fn powers_need(power: &Power, places: &[usize]) -> bool {
     true
 }
 
-/// Whether just the processors with these numbers need their power nodes.
+/// Whether exactly the processors with these numbers need their power nodes.
 fn procs_need(power: &Power, numbers: &[u32]) -> bool {
     for number in PROCS.iter() {
         if power.needs(NodeId(*number)) != numbers.contains(number) {
@@ -95,7 +96,7 @@ fn procs_need(power: &Power, numbers: &[u32]) -> bool {
     true
 }
 
-/// The first step of a walk after which other nodes are up or need their parents.
+/// The index of the first row of a walk after which other nodes are up or need their parents.
 fn wrong_step<L: Ledger>(power: &mut Power, walk: &[Step], blank: Blank) -> Option<usize>
     requires name { blank.name ≡ L.name }
     requires parts { blank.parts ≡ L.parts }
@@ -135,7 +136,7 @@ fn needs_of_a_tree_meet_at_its_branches(rt: HostRuntime) -> Result<(), Fail> {
     Ok(())
 }
 
-/// The needs of the processors, which of them need their power nodes then, and which places are up.
+/// A row: the needs of the processors, and then those that need their power nodes, and the places that are up.
 static RECOMPUTES: [(&[bool], &[u32], &[usize]); 6] = [
     (&[true; 6], &[1, 2, 3, 4, 5, 6], &[0, 1, 2, 3, 4, 5, 6]),
     (&[false, true], &[2], &[0, 1, 3, 5, 6]),
@@ -149,7 +150,7 @@ static RECOMPUTES: [(&[bool], &[u32], &[usize]); 6] = [
     ),
 ];
 
-/// The first row after which other nodes are up or need their parents.
+/// The index of the first row after which other nodes are up or need their parents.
 fn wrong_recompute<L: Ledger>(power: &mut Power, blank: Blank) -> Option<usize>
     requires name { blank.name ≡ L.name }
     requires parts { blank.parts ≡ L.parts }

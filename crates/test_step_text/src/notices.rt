@@ -15,14 +15,14 @@ const LATE: Late = Late {
 
 const GREATEST: u32 = u32::MAX;
 
-/// A callback all of whose words are as long as they can be.
+/// A callback whose words are all of the greatest length.
 const CALLBACK: Callback = Callback {
     master: NodeId(GREATEST),
     id: GREATEST,
     args: [GREATEST; 4],
 };
 
-/// A step's number, its late replies and callbacks where nothing else is written, and the lines.
+/// A row: the number of a step, its late replies and callbacks (it has no other output), and the lines.
 static NOTICES: [(u32, Option<Late>, Option<Callback>, &str); 4] = [
     (6, Some(LATE), None, "6 reply 1 2006 0 0 0\n"),
     (
@@ -52,7 +52,7 @@ static NOTICES: [(u32, Option<Late>, Option<Callback>, &str); 4] = [
     ),
 ];
 
-/// Whether the lines of a step with these notices alone are this text.
+/// Whether the lines of a step with only these notices are this text.
 fn tells(
     alloc: Global,
     n: u32,
@@ -66,7 +66,7 @@ fn tells(
     Ok(text_of(alloc, n, &out)?.as_slice() == text.as_bytes())
 }
 
-/// A list of one or none.
+/// A list of one element or none.
 fn list_of<T: Copy + Drop>(alloc: Global, item: Option<T>) -> Result<BoundedList<T>, NoMemory> {
     let mut list = BoundedList::with_room(alloc, 1)?;
     if let Some(item) = item {
@@ -101,7 +101,7 @@ fn replies(alloc: Global) -> Result<BoundedList<Late>, NoMemory> {
     Ok(late)
 }
 
-/// Two callbacks, by which a master hears that its request has ended and another is asked to suspend.
+/// Two callbacks: a master is told that its request has ended, and another is asked to suspend.
 fn callbacks(alloc: Global) -> Result<BoundedList<Callback>, NoMemory> {
     let mut calls = BoundedList::with_room(alloc, 2)?;
     calls.push(Callback {
@@ -117,7 +117,7 @@ fn callbacks(alloc: Global) -> Result<BoundedList<Callback>, NoMemory> {
     Ok(calls)
 }
 
-/// The lines of a step with all that it can write.
+/// The lines of a step with every kind of output.
 static LINES: [&str; 7] = [
     "3 set 7 0 1\n",
     "3 run 7 16\n",
@@ -128,7 +128,7 @@ static LINES: [&str; 7] = [
     "3 drop 8\n",
 ];
 
-/// The place of the first of those lines that a step doesn't write there.
+/// The index of the first of those lines that a step doesn't have there.
 fn wrong_line(out: &Outbox) -> Option<usize> {
     let mut line = TextLine::new();
     for (k, text) in LINES.iter().enumerate() {

@@ -8,8 +8,7 @@ use pm_trace::{TextLine, entries, entry};
 use std::alloc::Global;
 use std::test::Fail;
 
-/// An outbox of a step with at most one command and one start, and room for two late replies and two
-/// callbacks.
+/// An outbox of a step with at most one command and one start, and with room for two late replies and two callbacks.
 pub(crate) fn outbox(
     alloc: Global,
     done: Option<Done>,
@@ -26,6 +25,7 @@ pub(crate) fn outbox(
     }
     Ok(Outbox {
         moved: BoundedList::with_room(alloc, 0)?,
+        turned: false,
         pulse: None,
         done: commands,
         starts,
@@ -46,7 +46,7 @@ pub(crate) fn text_of(alloc: Global, n: u32, out: &Outbox) -> Result<Vec<u8>, Fa
     Ok(text)
 }
 
-/// A step's number, its answer, and its lines where nothing is commanded. The last line is the longest.
+/// A row: the number of a step, its answer, and its lines without any command. The last line is the longest.
 static ANSWERS: [(u32, Answer, &str); 6] = [
     (1, Answer::Silent, ""),
     (6, Answer::Drop { master: NodeId(8) }, "6 drop 8\n"),
@@ -126,8 +126,8 @@ fn each_answer_is_its_line(rt: HostRuntime) -> Result<(), Fail> {
 
 pub(crate) const DROP: Answer = Answer::Drop { master: NodeId(8) };
 
-/// A step's number, its command with the unit, the value before it, the value and whether it was taken,
-/// its answer, and its lines.
+/// A row: the number of a step; its command with the unit, the value before, the commanded value and whether it was
+/// taken; its answer; and its lines.
 static COMMANDS: [(u32, Unit, u32, u32, bool, Answer, &str); 7] = [
     (
         0,
@@ -218,7 +218,7 @@ fn each_command_is_its_line_before_the_answer(rt: HostRuntime) -> Result<(), Fai
     Ok(())
 }
 
-/// A step's number, the processor that starts and its address, and the line. The last line is the longest.
+/// A row: the number of a step, the processor that starts, its address, and the line. The last line is the longest.
 static STARTS: [(u32, u32, u64, &str); 3] = [
     (0, 2, 0, "0 run 2 0\n"),
     (4, 7, 4096, "4 run 7 4096\n"),

@@ -1,4 +1,4 @@
-//! The book over whole messages: what is answered, what moves, and where units then stand.
+//! The book over whole messages: the answers, the moves, and the values of units after them.
 
 use crate::rows::all_right;
 use pm_base::{LineId, NodeId, Unit};
@@ -8,7 +8,7 @@ use test_books::{
     Case, Desk, Want, desk_of, have_moved, message, settled, wrong_answer, wrong_value,
 };
 
-/// The masters 1 and 7, both of which may use slave 11 at a time, and only the first one slave 33.
+/// Masters 1 and 7. Both may use slave 11 at a time; only the first one may use slave 33.
 pub(crate) static SHARED_AND_OWN: [u32; 23] = [
     2, 2, 1, 0x101, 2, 1, 0x1, 100, 0, 0, 7, 0x100, 100, 0, 0, 0x102, 2, 11, 1, 0x101, 33, 0, 0x1,
 ];
@@ -32,21 +32,21 @@ fn request_release_and_status_of_two_masters(rt: HostRuntime) -> Result<(), Fail
     Ok(())
 }
 
-/// Slaves below FPD (28, 42, 55), the RPU's domain (15) and PLD (63), which master 7 may use. Master 8 runs.
+/// Slaves below FPD (28, 42, 55), the RPU's domain (15) and PLD (63), all of which master 7 may use. Master 8 runs.
 static BELOW: [u32; 32] = [
     2, 2, 1, 0x101, 2, 8, 0x200, 100, 0, 0, 7, 0x100, 100, 0, 0, 0x102, 5, 28, 0, 0x100, 15, 0,
     0x100, 42, 0, 0x100, 55, 0, 0x100, 63, 0, 0x100,
 ];
 
-/// Calls of master 7, and the nodes that move: the call, the node, the capabilities, and the nodes
-/// in order.
+/// Calls of master 7, and the nodes that move: the number of the call, the node, the capabilities, and the nodes in
+/// order.
 static MOVES: [(u32, u32, u32, &[u32]); 13] = [
-    // FPD comes with its first slave that needs it, and goes with its last
+    // FPD goes up with the first slave that needs it, and down with the last
     (13, 28, 1, &[10, 28]),
     (13, 42, 4, &[42]),
     (14, 28, 0, &[28]),
     (14, 42, 0, &[10, 42]),
-    // the DDR keeps its content without its power node, and gives access with it alone
+    // the DDR keeps its content without its power node, but gives access only with it
     (13, 55, 2, &[55]),
     (14, 55, 0, &[55]),
     (13, 55, 3, &[10, 55]),
@@ -54,7 +54,7 @@ static MOVES: [(u32, u32, u32, &[u32]); 13] = [
     // the RPU's domain is up for the processors
     (13, 15, 2, &[15]),
     (13, 63, 1, &[9, 63]),
-    // refused, and without a requirement
+    // refused calls, and one without a requirement
     (13, 63, 1, &[]),
     (13, 28, 0, &[]),
     (14, 63, 0, &[9, 63]),
@@ -101,8 +101,8 @@ fn each_node_has_a_status(rt: HostRuntime) -> Result<(), Fail> {
     Ok(())
 }
 
-/// Places of units, and the units there: the ends of all nodes, and of each row of lines that stand
-/// number by number. No line resets a power node.
+/// Indexes and the units there: the ends of all nodes, and of each run of lines with consecutive numbers. No line
+/// resets a power node.
 static PLACES: [(usize, Option<Unit>); 11] = [
     (0, Some(Unit::Node(NodeId(1)))),
     (68, Some(Unit::Node(NodeId(69)))),
@@ -117,7 +117,7 @@ static PLACES: [(usize, Option<Unit>); 11] = [
     (133, None),
 ];
 
-/// The unit at a place, if there is one.
+/// The unit at an index, if there is one.
 fn unit_at(book: &Book, place: usize) -> Option<Unit> {
     if place < book.units() {
         Some(book.unit(place))

@@ -6,13 +6,13 @@ use pm_core::Answer;
 use std::test::Fail;
 use test_books::{Case, Want, settled, wrong_answer, wrong_answer_over};
 
-/// The masters 1 and 7, both of which may use slaves 11 and 12, and only the first one slave 33. Slave 12 has one user at a time.
+/// Masters 1 and 7. Both may use slaves 11 and 12; only the first one may use slave 33. Slave 12 can't be shared.
 pub(crate) static ONE_USER: [u32; 26] = [
     2, 2, 1, 0x101, 2, 1, 0x1, 100, 0, 0, 7, 0x100, 100, 0, 0, 0x102, 3, 11, 1, 0x101, 12, 0,
     0x101, 33, 0, 0x1,
 ];
 
-/// Each check failing alone, and together with a later one.
+/// Each check fails alone, and together with a later one.
 static CHECKS: [Case; 33] = [
     // senders that are no configured masters
     (0, 3, [11, 0, 0, 0], Want::Drop),
@@ -20,7 +20,7 @@ static CHECKS: [Case; 33] = [
     (6, 3, [11, 0, 0, 0], Want::Drop),
     (8, 3, [11, 0, 0, 0], Want::Drop),
     (11, 3, [11, 0, 0, 0], Want::Drop),
-    // the call: these aren't known, whatever their arguments
+    // the call: these numbers are unknown, whatever their arguments
     (1, 0, [11, 0, 0, 0], Want::Reply(19, [0, 0, 0])),
     (7, 99, [33, 1, 0, 3], Want::Reply(19, [0, 0, 0])),
     // the address: no object is attached there
@@ -68,7 +68,7 @@ fn the_first_check_that_fails_decides(rt: HostRuntime) -> Result<(), Fail> {
     Ok(())
 }
 
-/// Acknowledge kind 1 is silent, and kind 3 is a callback with the operating point after the step.
+/// Acknowledge kind 1 has no answer, and kind 3 gets a callback with the operating point after the step.
 static ACKNOWLEDGED: [Case; 6] = [
     (1, 13, [11, 2, 0, 1], Want::Silent),
     (1, 13, [11, 2, 0, 1], Want::Silent),
@@ -78,7 +78,7 @@ static ACKNOWLEDGED: [Case; 6] = [
     (7, 13, [99, 1, 0, 3], Want::Ack(99, 2003, 0)),
 ];
 
-/// The status of a slave that the caller may not use, and the least state for all of its users.
+/// The status of a slave that the caller may not use, and the least state that all its users need.
 static USERS: [Case; 5] = [
     (1, 13, [33, 0, 0, 2], Want::Reply(0, [0, 0, 0])),
     (7, 3, [33, 0, 0, 0], Want::Reply(0, [0, 0, 2])),
@@ -99,35 +99,35 @@ fn acknowledgements_and_other_events(rt: HostRuntime) -> Result<(), Fail> {
 /// No reply words.
 const NONE: [u32; 3] = [0; 3];
 
-/// The calls of processors, of masters of which neither suspends at first.
+/// Calls on processors. Neither master is suspending at first.
 static SUSPENDS: [Case; 27] = [
     (1, 1, [11, 0, 0, 0], Want::Reply(0, [65_537, 0, 0])),
     // SELF_SUSPEND: the node is no processor
     (1, 7, [11, 0, 0, 0], Want::Reply(2003, NONE)),
     (1, 7, [10, 0, 0, 0], Want::Reply(2003, NONE)),
     (1, 7, [99, 0, 0, 0], Want::Reply(2003, NONE)),
-    // it is another master's, alone and where it is off, and nobody's
+    // it is another master's, active or off, and nobody's
     (1, 7, [7, 0, 0, 0], Want::Reply(2002, NONE)),
     (7, 7, [3, 0, 0, 0], Want::Reply(2002, NONE)),
     (1, 7, [8, 0, 0, 0], Want::Reply(2002, NONE)),
     // it is off
     (1, 7, [3, 0, 0, 0], Want::Reply(1, NONE)),
-    // it suspends, and then it is suspending, for its master alone
+    // it starts to suspend, and then suspends already; only its master sees that
     (1, 7, [2, 0, 0, 0], Want::Reply(0, NONE)),
     (1, 7, [2, 0, 0, 0], Want::Reply(2004, NONE)),
     (7, 7, [2, 0, 0, 0], Want::Reply(2002, NONE)),
     // ABORT_SUSPEND: the node is no processor, alone and with a bad reason
     (1, 9, [100, 11, 0, 0], Want::Reply(2003, NONE)),
     (1, 9, [99, 99, 0, 0], Want::Reply(2003, NONE)),
-    // the reason, alone and with another master's processor
+    // the reason: alone, and with another master's processor
     (1, 9, [99, 2, 0, 0], Want::Reply(15, NONE)),
     (1, 9, [104, 2, 0, 0], Want::Reply(15, NONE)),
     (1, 9, [99, 7, 0, 0], Want::Reply(15, NONE)),
-    // another master's, alone and where it isn't suspending
+    // another master's: alone, and not suspending
     (7, 9, [100, 2, 0, 0], Want::Reply(2002, NONE)),
     (1, 9, [100, 7, 0, 0], Want::Reply(2002, NONE)),
     (1, 9, [103, 8, 0, 0], Want::Reply(2002, NONE)),
-    // it is off, and it is active
+    // it is off, and it is active without a request
     (1, 9, [100, 3, 0, 0], Want::Reply(1, NONE)),
     (7, 9, [103, 7, 0, 0], Want::Reply(1, NONE)),
     // it goes on
@@ -135,7 +135,7 @@ static SUSPENDS: [Case; 27] = [
     (1, 9, [103, 2, 0, 0], Want::Reply(1, NONE)),
     (1, 7, [2, 0, 0, 0], Want::Reply(0, NONE)),
     (1, 9, [100, 2, 0, 0], Want::Reply(0, NONE)),
-    // INIT_FINALIZE has no check
+    // INIT_FINALIZE has no checks
     (1, 21, [99, 0, 0, 0], Want::Reply(0, NONE)),
     (7, 21, [99, 0, 0, 0], Want::Reply(0, NONE)),
 ];
@@ -159,7 +159,7 @@ static REQUIREMENTS: [Case; 25] = [
     (7, 15, [33, 1, 0, 2], Want::Reply(2002, NONE)),
     (7, 15, [33, 8, 0, 2], Want::Reply(2002, NONE)),
     (1, 15, [13, 1, 0, 2], Want::Reply(2002, NONE)),
-    // the capabilities, where the slave isn't in use
+    // the capabilities, although the slave isn't in use
     (1, 15, [11, 4, 0, 2], Want::Reply(19, NONE)),
     // it isn't in use
     (1, 15, [11, 1, 0, 2], Want::Reply(2002, NONE)),
@@ -168,16 +168,16 @@ static REQUIREMENTS: [Case; 25] = [
     (1, 16, [10, 0, 0, 0], Want::Reply(2003, NONE)),
     (7, 16, [33, 0, 0, 0], Want::Reply(2002, NONE)),
     (1, 16, [11, 0, 0, 0], Want::Reply(2002, NONE)),
-    // another's use isn't one's own
+    // another master's use isn't one's own
     (7, 13, [11, 2, 0, 2], Want::Reply(0, NONE)),
     (1, 15, [11, 1, 0, 2], Want::Reply(2002, NONE)),
     (1, 16, [11, 0, 0, 0], Want::Reply(2002, NONE)),
-    // a latency is met by a state that is left faster
+    // a latency that a state with a lesser one meets
     (7, 16, [11, 0, 0, 0], Want::Reply(0, NONE)),
     (7, 3, [11, 0, 0, 0], Want::Reply(0, [2, 2, 1])),
     (7, 16, [11, u32::MAX, 0, 0], Want::Reply(0, NONE)),
     (7, 3, [11, 0, 0, 0], Want::Reply(0, [1, 2, 1])),
-    // what is required in place of it, under each acknowledge kind
+    // a later requirement replaces it, under each acknowledge kind
     (7, 15, [11, 1, 0, 3], Want::Ack(11, 0, 2)),
     (7, 15, [11, 8, 0, 3], Want::Ack(11, 19, 2)),
     (7, 15, [11, 2, 0, 1], Want::Silent),

@@ -7,15 +7,15 @@ use std::alloc::Global;
 use std::test::Fail;
 use test_books::{Case, Desk, Trigger, Want, event_of, settled, wrong_answer};
 
-/// The masters 1, 7 and 8. Behind these words stands a record for each of the numbers 0 to 70: the first master may reset
-/// it, where it is a line.
+/// Masters 1, 7 and 8. These words are followed by a record for each of the numbers 0 to 70: the first master may
+/// reset the line, if it is one.
 static MASTERS: [u32; 22] = [
     2, 2, 1, 0x101, 3, 1, 0x1, 100, 0, 0, 7, 0x100, 100, 0, 0, 8, 0x200, 100, 0, 0, 0x105, 71,
 ];
 
 static PROCS: [u32; 6] = [2, 3, 4, 5, 7, 8];
 
-/// The numbers up to 70 that aren't those of a processor or a slave, and so no line has.
+/// The numbers up to 70 that no line has, since they aren't those of a processor or a slave.
 static NO_LINES: [u32; 7] = [0, 1, 6, 9, 10, 62, 70];
 
 /// The book while all processors run.
@@ -33,8 +33,8 @@ fn busy(alloc: Global) -> Result<Box<Desk>, Fail> {
     Ok(desk)
 }
 
-/// An action on a line: whether the processor of the line's number runs then, if there is one, the value of the line, and
-/// whether it is pulsed.
+/// An action on a line, and then: whether the processor with the line's number runs, if there is one; the value of
+/// the line; and whether it is pulsed.
 type Action = (u32, bool, u32, bool);
 
 /// A line is released before it was ever asserted, asserted, asserted again, and released.
@@ -45,7 +45,7 @@ static ASSERTED: [Action; 4] = [
     (0, false, 0, false),
 ];
 
-/// A line is pulsed, and once more, now over a processor that is off; and released.
+/// A line is pulsed; and again, while its processor is off; and released.
 static PULSED: [Action; 3] = [
     (2, false, 0, true),
     (2, false, 0, true),
@@ -62,7 +62,7 @@ fn is_off(book: &Book, proc: u32) -> bool {
     matches!(book.mode(NodeId(proc)), Mode::Off)
 }
 
-/// Whether all processors run, but for the one with this number where that doesn't.
+/// Whether all processors run, except the one with this number if it isn't to run.
 fn procs_stand(book: &Book, line: u32, runs: bool) -> bool {
     for proc in &PROCS {
         if is_off(book, *proc) != (*proc == line && !runs) {
@@ -79,13 +79,13 @@ fn is_pulsed(out: &Outbox, line: u32) -> bool {
     }
 }
 
-/// Whether a call of the first master on a line is answered otherwise, with no words.
+/// Whether a call of the first master on a line gets another answer, with no words.
 fn is_answered_otherwise(desk: &mut Desk, line: u32, action: u32, status: u32) -> bool {
     let case: Case = (1, 17, [line, action, 0, 0], Want::Reply(status, [0; 3]));
     wrong_answer(desk, &[case]).is_some()
 }
 
-/// The actions one after another, and then the processor starts again.
+/// Makes the actions one after another, and then starts the processor again.
 fn wrong_action(desk: &mut Desk, line: u32, actions: &[Action]) -> bool {
     for (action, runs, value, pulsed) in actions {
         if is_answered_otherwise(desk, line, *action, 0)
@@ -118,7 +118,7 @@ fn wrong_refusal(desk: &mut Desk, number: u32) -> bool {
     !procs_stand(&desk.book, number, true)
 }
 
-/// Whether a number isn't that of a line where it is one, or isn't refused where it is none.
+/// Whether a line's number is wrong: a line isn't as it should be, or the number of none isn't refused.
 fn is_wrong(desk: &mut Desk, number: u32) -> bool {
     if has_no_line(number) {
         return wrong_refusal(desk, number);

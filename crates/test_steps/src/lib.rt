@@ -1,4 +1,4 @@
-//! Tests of a step's public calls: the book, and what its own calls change.
+//! Tests of a step's public calls: the book, and the changes by its own calls.
 #![tactic(auto)]
 
 #[cfg(test)]

@@ -26,7 +26,7 @@ static TRIGGERS: [Turn; 17] = [
     // one that sleeps can't be booted
     (Trigger::Boot(7, 0), &[], &[]),
     (Trigger::Wfi(7), &[], &[]),
-    // one that goes on after it suspended doesn't start
+    // one that goes on after its suspend doesn't start
     (Trigger::Call(1, 7, [2, 0, 0, 16]), &[], &[]),
     (Trigger::Call(1, 9, [101, 2, 0, 0]), &[], &[]),
     (Trigger::Boot(3, u64::MAX), &[(3, u64::MAX)], &[3]),
@@ -41,7 +41,8 @@ fn processors_start_and_sleep(rt: HostRuntime) -> Result<(), Fail> {
     Ok(())
 }
 
-/// What master 7 requires of slave 11, suspends, requires for its sleep, and is told of it.
+/// The requirements of master 7 on slave 11 while it is active, suspending, and for its sleep; and what it is told of
+/// them.
 static SCHEDULED: [Case; 5] = [
     (7, 13, [11, 1, 0, 2], Want::Reply(0, [0, 0, 0])),
     (7, 7, [7, 0, 0, 0], Want::Reply(0, [0, 0, 0])),
@@ -50,7 +51,7 @@ static SCHEDULED: [Case; 5] = [
     (1, 3, [7, 0, 0, 0], Want::Reply(0, [3, 0, 0])),
 ];
 
-/// Once it sleeps it isn't heard, and what it required for its sleep is in force.
+/// Asleep, it isn't heard, and its requirement for its sleep is in force.
 static ASLEEP: [Case; 5] = [
     (7, 3, [11, 0, 0, 0], Want::Drop),
     (7, 9, [100, 7, 0, 0], Want::Drop),

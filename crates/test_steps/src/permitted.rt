@@ -1,4 +1,4 @@
-//! The row of each permitted pair: at load, and once masters are started and have requested.
+//! The row of each permitted pair: at load, and after masters were started and made requests.
 
 use crate::book::{SHARED_AND_OWN, TWO_MASTERS};
 use crate::rows::all_right;
@@ -32,16 +32,16 @@ fn each_permitted_pair_has_a_row(rt: HostRuntime) -> Result<(), Fail> {
     Ok(())
 }
 
-/// Masters 1, 7 and 8. Slave 12 has one user at a time. Preallocations of slave 11 stand in a group of 1, in
-/// one of 7, neither of which is in use, and in one of all three; one of slave 12, with a capability that it
-/// lacks, in the last.
+/// Masters 1, 7 and 8. Slave 12 can't be shared. Preallocations of slave 11 are in a group of 1, in one of 7, neither
+/// of which is in use, and in one of all three. One of slave 12, with a capability that it lacks, is in the last
+/// group.
 static PREALLOCATED: [u32; 52] = [
     2, 3, 1, 0x101, 3, 1, 0x1, 100, 0, 0, 7, 0x100, 100, 0, 0, 8, 0x200, 100, 0, 0, 0x102, 2, 11,
     1, 0x301, 12, 0, 0x301, 0x103, 3, 0x1, 1, 11, 0, 1, 2, 0x100, 1, 11, 0, 1, 2, 0x301, 2, 11, 2,
     1, 1, 12, 2, 7, 7,
 ];
 
-/// Rows at load: the first preallocation counts, also where it isn't in use.
+/// Rows at load: the first preallocation counts, even if it isn't in use.
 static LOADED_ROWS: [RowCase; 7] = [
     (
         1,
@@ -99,7 +99,7 @@ static LOADED_ROWS: [RowCase; 7] = [
     (6, 11, None),
 ];
 
-/// Rows once master 7 is started: its preset of slave 12, which master 1 uses, isn't applied.
+/// Rows after master 7 was started: its preset of slave 12 isn't applied, since master 1 uses the slave.
 static STARTED_ROWS: [RowCase; 3] = [
     (
         1,

@@ -1,4 +1,4 @@
-//! Reset lines are asserted, released and pulsed, and nodes tell their power figures and latencies.
+//! Reset lines are asserted, released and pulsed; nodes tell their power figures and latencies.
 
 use crate::rows::all_right;
 use pm_base::NodeId;
@@ -8,8 +8,8 @@ use test_books::{
     Case, Desk, Trigger, Turn, Want, event_of, settled, wrong_answer, wrong_answer_over, wrong_turn,
 };
 
-/// The masters 1 and 7, both of which may use slaves 11, 33 and 46. The first may wake 7, and reset the lines of slave
-/// 33, of processor 7 and of processor 8, which nobody has; 7 may reset the line of processor 2.
+/// Masters 1 and 7, both of which may use slaves 11, 33 and 46. The first may wake 7, and reset the lines of slave
+/// 33, of processor 7 and of processor 8, which nobody has. Master 7 may reset the line of processor 2.
 static RESETS: [u32; 36] = [
     2, 3, 1, 0x101, 2, 1, 0x1, 100, 0, 0x100, 7, 0x100, 100, 0, 0, 0x102, 3, 11, 1, 0x101, 33, 1,
     0x101, 46, 1, 0x101, 0x105, 4, 33, 0x1, 7, 0x1, 8, 0x1, 2, 0x100,
@@ -35,7 +35,7 @@ static CHECKS: [Case; 32] = [
     (7, 17, [33, 1, 0, 0], Want::Reply(2002, NONE)),
     (1, 17, [2, 2, 0, 0], Want::Reply(2002, NONE)),
     (1, 17, [34, 1, 0, 0], Want::Reply(2002, NONE)),
-    // nothing is changed so far; the status needs no permission
+    // nothing has changed so far; the status needs no permission
     (1, 18, [33, 0, 0, 0], Want::Reply(0, NONE)),
     (1, 18, [34, 0, 0, 0], Want::Reply(0, NONE)),
     (7, 18, [2, 0, 0, 0], Want::Reply(0, NONE)),
@@ -53,7 +53,7 @@ static CHECKS: [Case; 32] = [
     (1, 17, [33, 1, 0, 0], Want::Reply(0, NONE)),
     (1, 17, [33, 0, 0, 0], Want::Reply(0, NONE)),
     (1, 18, [33, 0, 0, 0], Want::Reply(0, NONE)),
-    // the line of a processor that nobody has; no other line notices
+    // the line of a processor that nobody has; no other line changes
     (1, 17, [8, 1, 0, 0], Want::Reply(0, NONE)),
     (1, 18, [8, 0, 0, 0], Want::Reply(0, [1, 0, 0])),
     (1, 18, [7, 0, 0, 0], Want::Reply(0, NONE)),
@@ -67,8 +67,8 @@ fn the_first_check_of_a_reset_decides(rt: HostRuntime) -> Result<(), Fail> {
     Ok(())
 }
 
-/// A slave under reset stays as it is, and can be requested. A processor that is released stays active; asserted
-/// or pulsed it goes off, and its master with it: its rows and what they are armed with are gone.
+/// A slave under reset keeps its state, and can be requested. A processor whose line is released stays active. If its
+/// line is asserted or pulsed it goes off, and so does its master, with its rows and their arming.
 static STOPS: [Case; 20] = [
     (7, 13, [33, 2, 0, 2], Want::Reply(0, NONE)),
     (1, 17, [33, 1, 0, 0], Want::Reply(0, NONE)),
@@ -85,7 +85,7 @@ static STOPS: [Case; 20] = [
     (1, 3, [7, 0, 0, 0], Want::Reply(0, NONE)),
     (1, 3, [33, 0, 0, 0], Want::Reply(0, NONE)),
     (1, 18, [7, 0, 0, 0], Want::Reply(0, [1, 0, 0])),
-    // an asserted line keeps nobody off
+    // an asserted line doesn't prevent a start
     (1, 10, [7, 0, 0, 2], Want::Reply(0, NONE)),
     (7, 3, [7, 0, 0, 0], Want::Reply(0, [1, 0, 0])),
     (7, 3, [33, 0, 0, 0], Want::Reply(0, NONE)),
@@ -93,8 +93,8 @@ static STOPS: [Case; 20] = [
     (1, 17, [7, 0, 0, 0], Want::Reply(0, NONE)),
 ];
 
-/// A processor is reset, while it is active and while it sleeps: nothing wakes it by the slave that its master armed, and it starts
-/// at 0, wherever it was to resume.
+/// A processor is reset while it is active and while it sleeps. The slave that its master armed doesn't wake it any
+/// more. It starts at 0, whatever its resume address was.
 static RESUMED: [Turn; 11] = [
     (Trigger::Call(7, 11, [7, 46, 1, 0]), &[], &[]),
     (Trigger::Call(7, 7, [7, 0, 0, 0x2000]), &[], &[]),
@@ -122,14 +122,14 @@ fn a_reset_stops_a_processor_and_no_slave(rt: HostRuntime) -> Result<(), Fail> {
     Ok(())
 }
 
-/// What happens, and the line that the step pulses.
+/// A row: an event, and the line that its step pulses.
 type Pulse = (Trigger, Option<u32>);
 
 fn pulse_in(out: &Outbox) -> Option<u32> {
     out.pulse.map(|line| line.0)
 }
 
-/// Only an accepted pulse is one, and only in its own step.
+/// Only an accepted pulse counts, and only in its own step.
 static PULSES: [Pulse; 7] = [
     (Trigger::Call(1, 17, [33, 1, 0, 0]), None),
     (Trigger::Call(1, 17, [33, 2, 0, 0]), Some(33)),
@@ -167,7 +167,7 @@ static CHARACTERISTICS: [Case; 29] = [
     (1, 4, [11, 0, 0, 0], Want::Reply(15, NONE)),
     (1, 4, [11, 4, 0, 0], Want::Reply(15, NONE)),
     (1, 4, [11, 2, 0, 0], Want::Reply(19, NONE)),
-    // a memory in each state, also for a master that may not use it
+    // a memory in each state, even for a master that may not use it
     (1, 4, [11, 1, 0, 0], Want::Reply(0, NONE)),
     (1, 4, [11, 3, 0, 0], Want::Reply(0, [1000, 0, 0])),
     (1, 4, [12, 3, 0, 0], Want::Reply(0, [1000, 0, 0])),

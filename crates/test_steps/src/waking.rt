@@ -1,5 +1,5 @@
-//! Processors and masters are woken: by a call, by the interrupt of a slave that is armed, and by an interrupt
-//! at a processor.
+//! Processors and masters are woken: by a call, by the interrupt of an armed slave, and by an interrupt of a
+//! processor.
 
 use crate::rows::all_right;
 use pm_base::NodeId;
@@ -10,9 +10,9 @@ use test_books::{
     wrong_turn_over,
 };
 
-/// The masters 1 and 7. The first may wake 7, and its wake word also has the bit of a master that isn't
-/// configured; 7 may wake nobody. Both may use slave 11, which has no WAKEUP, and slave 46, which has it; only
-/// the first one slave 33.
+/// Masters 1 and 7. The first may wake 7, and its wake word also has the bit of a master that isn't configured; 7 may
+/// wake nobody. Both may use slave 11, which has no WAKEUP, and slave 46, which has it. Only the first one may use
+/// slave 33.
 static WAKING: [u32; 26] = [
     2, 2, 1, 0x101, 2, 1, 0x1, 100, 0, 0x300, 7, 0x100, 100, 0x1, 0, 0x102, 3, 11, 1, 0x101, 33, 0,
     0x1, 46, 1, 0x101,
@@ -27,21 +27,21 @@ static WAKEUPS: [Case; 26] = [
     (1, 10, [3, 0, 0, 0], Want::Reply(15, NONE)),
     (1, 10, [3, 0, 0, 4], Want::Reply(15, NONE)),
     (1, 10, [11, 0, 0, 4], Want::Reply(15, NONE)),
-    // the node: a slave, a power node with the number of a master, and no node, for one who may wake others
-    // and for one who may not
+    // the node: a slave, a power node with a master's number, and no node; for a caller that may wake others, and
+    // for one that may not
     (1, 10, [11, 0, 0, 2], Want::Reply(2003, NONE)),
     (1, 10, [1, 0, 0, 2], Want::Reply(2003, NONE)),
     (1, 10, [99, 0, 0, 2], Want::Reply(2003, NONE)),
     (7, 10, [11, 0, 0, 2], Want::Reply(2003, NONE)),
-    // the permission, alone and where the processor is active; and a processor that nobody has
+    // the permission: alone, and with an active processor; and a processor that nobody has
     (7, 10, [3, 0, 0, 2], Want::Reply(2002, NONE)),
     (7, 10, [2, 0, 0, 2], Want::Reply(2002, NONE)),
     (1, 10, [8, 1, 0, 2], Want::Reply(2002, NONE)),
-    // the processor is active: the caller's, and that of a master which it may wake
+    // the processor is active: the caller's own, and that of a master which it may wake
     (1, 10, [2, 0, 0, 2], Want::Reply(1, NONE)),
     (7, 10, [7, 0, 0, 2], Want::Reply(1, NONE)),
     (1, 10, [7, 0, 0, 2], Want::Reply(1, NONE)),
-    // one that is off, under each acknowledge kind, with the operating point after the step
+    // it is off; under each acknowledge kind, with the operating point after the step
     (1, 10, [3, 0, 0, 2], Want::Reply(0, NONE)),
     (1, 3, [3, 0, 0, 0], Want::Reply(0, [1, 0, 0])),
     (1, 10, [3, 0, 0, 3], Want::Ack(3, 1, 1)),
@@ -51,7 +51,7 @@ static WAKEUPS: [Case; 26] = [
     (1, 10, [5, 0, 0, 1], Want::Silent),
     (1, 3, [5, 0, 0, 0], Want::Reply(0, [1, 0, 0])),
     (1, 10, [5, 0, 0, 1], Want::Silent),
-    // one that is suspending goes on, and so does its master
+    // it is suspending: it goes on, and so does its master
     (7, 7, [7, 0, 0, 0], Want::Reply(0, NONE)),
     (7, 3, [7, 0, 0, 0], Want::Reply(0, [3, 0, 0])),
     (1, 10, [7, 1, 0, 3], Want::Ack(7, 0, 1)),
@@ -89,15 +89,15 @@ static ARMINGS: [Case; 25] = [
     // the permission, with a slave that has no WAKEUP
     (1, 11, [7, 11, 1, 0], Want::Reply(2002, NONE)),
     (1, 11, [2, 12, 1, 0], Want::Reply(2002, NONE)),
-    // a slave that has no WAKEUP, also where it is used
+    // a slave without WAKEUP, even if it is used
     (1, 11, [2, 11, 1, 0], Want::Reply(19, NONE)),
     (1, 11, [2, 11, 0, 0], Want::Reply(19, NONE)),
     (1, 13, [11, 1, 0, 2], Want::Reply(0, NONE)),
     (1, 11, [2, 11, 1, 0], Want::Reply(19, NONE)),
-    // the permission alone is asked for: nobody uses the slave, which stays as it is; a processor that is off
+    // only the permission is needed: nobody uses the slave, and it keeps its state; a processor that is off
     (1, 11, [3, 46, 1, 0], Want::Reply(0, NONE)),
     (1, 3, [46, 0, 0, 0], Want::Reply(0, NONE)),
-    // it is armed again, a row that isn't armed is disarmed, another master arms it; further words aren't judged
+    // it is armed again; a row that isn't armed is disarmed; another master arms it; further words aren't judged
     (1, 11, [3, 46, 1, 4], Want::Reply(0, NONE)),
     (1, 11, [2, 33, 0, 1], Want::Reply(0, NONE)),
     (7, 11, [7, 46, 1, 3], Want::Reply(0, NONE)),
@@ -122,7 +122,7 @@ fn wrong_arming(book: &Book, armings: &[Arming]) -> Option<usize> {
     None
 }
 
-/// What is armed after these calls: neither a slave that was refused nor one that was only disarmed.
+/// The arming after these calls: neither a refused slave nor one that was only disarmed is armed.
 static ARMED: [Arming; 4] = [
     (1, 46, Some(NodeId(3))),
     (7, 46, Some(NodeId(7))),
@@ -138,12 +138,12 @@ fn the_first_check_of_an_arming_decides(rt: HostRuntime) -> Result<(), Fail> {
     Ok(())
 }
 
-/// Two masters that arm one slave, master 1 with its second processor. The slave stands in a state with WAKEUP
-/// exactly while one of them is asleep.
+/// Two masters arm one slave, master 1 with its second processor. The slave is in a state with WAKEUP exactly while
+/// one of them is asleep.
 static SHARED: [Turn; 27] = [
     (Trigger::Call(1, 11, [3, 46, 1, 0]), &[], &[]),
     (Trigger::Call(7, 11, [7, 46, 1, 0]), &[], &[]),
-    // an interrupt wakes no processor that is off or active
+    // an interrupt doesn't wake a processor that is off or active
     (Trigger::Irq(46), &[], &[]),
     (Trigger::Gic(3), &[], &[]),
     (Trigger::Gic(7), &[], &[]),
@@ -154,12 +154,12 @@ static SHARED: [Turn; 27] = [
     ),
     (Trigger::Call(1, 7, [2, 0, 0, 16]), &[], &[]),
     (Trigger::Call(1, 7, [3, 0, 0, 32]), &[], &[]),
-    // the slave is taken along by the sleep of the master, and not by that of one of its processors
+    // the slave follows the sleep of the master, and not that of one of its processors
     (Trigger::Wfi(2), &[], &[2]),
     (Trigger::Wfi(3), &[], &[1, 3, 10, 46]),
     (Trigger::Call(7, 7, [7, 0, 0, 64]), &[], &[]),
     (Trigger::Wfi(7), &[], &[6, 7]),
-    // the interrupt of another slave, and numbers that name no slave
+    // the interrupt of another slave, and numbers that no slave has
     (Trigger::Irq(33), &[], &[]),
     (Trigger::Irq(7), &[], &[]),
     (Trigger::Irq(99), &[], &[]),
@@ -168,14 +168,14 @@ static SHARED: [Turn; 27] = [
     // each wakes its own processor, in one step
     (Trigger::Irq(46), &[(3, 32), (7, 64)], &[1, 3, 6, 7, 10, 46]),
     (Trigger::Irq(46), &[], &[]),
-    // the one disarms, and the other's arming stays
+    // one disarms, and the other's arming stays
     (Trigger::Call(7, 11, [7, 46, 0, 0]), &[], &[]),
     (Trigger::Call(1, 7, [3, 0, 0, 48]), &[], &[]),
     (Trigger::Wfi(3), &[], &[1, 3, 10, 46]),
     (Trigger::Call(7, 7, [7, 0, 0, 80]), &[], &[]),
     (Trigger::Wfi(7), &[], &[6, 7]),
     (Trigger::Irq(46), &[(3, 48)], &[1, 3, 10, 46]),
-    // an interrupt at a processor itself wakes it though no row is armed with it
+    // an interrupt of a processor itself wakes it, even if no row is armed with it
     (Trigger::Gic(7), &[(7, 80)], &[6, 7]),
     (Trigger::Gic(2), &[(2, 16)], &[2]),
 ];
@@ -190,7 +190,7 @@ fn a_slave_wakes_a_processor_of_each_master_that_armed_it(rt: HostRuntime) -> Re
     Ok(())
 }
 
-/// Arming needs no use of the slave, stays after its release, and is replaced or ended by the same call.
+/// Arming doesn't need use of the slave, stays after a release, and is replaced or ended by the same call.
 static KEPT: [Turn; 20] = [
     (Trigger::Call(1, 13, [46, 4, 0, 2]), &[], &[46]),
     (Trigger::Call(1, 11, [2, 46, 1, 0]), &[], &[]),
@@ -198,19 +198,19 @@ static KEPT: [Turn; 20] = [
     (Trigger::Call(1, 7, [2, 0, 0, 16]), &[], &[]),
     (Trigger::Wfi(2), &[], &[1, 2, 10, 46]),
     (Trigger::Irq(46), &[(2, 16)], &[1, 2, 10, 46]),
-    // the row is armed with another processor, which is off: the interrupt wakes nobody any more
+    // the row is armed with another processor, which is off: the interrupt wakes nobody
     (Trigger::Call(1, 11, [3, 46, 1, 0]), &[], &[]),
     (Trigger::Call(1, 7, [2, 0, 0, 32]), &[], &[]),
     (Trigger::Wfi(2), &[], &[1, 2, 10, 46]),
     (Trigger::Irq(46), &[], &[]),
     (Trigger::Gic(2), &[(2, 32)], &[1, 2, 10, 46]),
-    // it is disarmed: the slave isn't taken along either
+    // it is disarmed: the slave doesn't follow the sleep either
     (Trigger::Call(1, 11, [3, 46, 0, 0]), &[], &[]),
     (Trigger::Call(1, 7, [2, 0, 0, 48]), &[], &[]),
     (Trigger::Wfi(2), &[], &[1, 2, 10]),
     (Trigger::Irq(46), &[], &[]),
     (Trigger::Gic(2), &[(2, 48)], &[1, 2, 10]),
-    // a second master that is asleep, and isn't armed, needs no WAKEUP
+    // a second sleeping master, which isn't armed, needs no WAKEUP
     (Trigger::Call(1, 11, [2, 46, 1, 0]), &[], &[]),
     (Trigger::Call(7, 7, [7, 0, 0, 0]), &[], &[]),
     (Trigger::Wfi(7), &[], &[6, 7]),
@@ -225,8 +225,8 @@ fn arming_stays_until_it_is_ended(rt: HostRuntime) -> Result<(), Fail> {
     Ok(())
 }
 
-/// A suspend that an interrupt or a wake-up ends before the sleep: nothing starts, a wait does nothing, and what
-/// was scheduled for slave 33 is dropped, so that it stays on in the next sleep.
+/// An interrupt or a wake-up ends a suspend before the sleep: nothing starts, a wait does nothing, and the
+/// requirement that was scheduled for slave 33 is dropped, so that the slave stays on in the next sleep.
 static CANCELLED: [Turn; 27] = [
     (Trigger::Call(1, 13, [33, 1, 0, 2]), &[], &[33]),
     (Trigger::Call(1, 11, [2, 46, 1, 0]), &[], &[]),
@@ -238,7 +238,7 @@ static CANCELLED: [Turn; 27] = [
     (Trigger::Call(1, 7, [2, 0, 0, 32]), &[], &[]),
     (Trigger::Wfi(2), &[], &[1, 2, 10, 46]),
     (Trigger::Gic(2), &[(2, 32)], &[1, 2, 10, 46]),
-    // by an interrupt at the processor
+    // by an interrupt of the processor
     (Trigger::Call(1, 7, [2, 0, 0, 48]), &[], &[]),
     (Trigger::Call(1, 15, [33, 0, 0, 2]), &[], &[]),
     (Trigger::Gic(2), &[], &[]),
@@ -254,7 +254,7 @@ static CANCELLED: [Turn; 27] = [
     (Trigger::Call(1, 7, [2, 0, 0, 96]), &[], &[]),
     (Trigger::Wfi(2), &[], &[1, 2, 10, 46]),
     (Trigger::Irq(46), &[(2, 96)], &[1, 2, 10, 46]),
-    // and one that isn't ended: the schedule takes force, and is undone by the waking
+    // and a suspend that isn't ended: the scheduled requirement comes into force, and waking undoes it
     (Trigger::Call(1, 7, [2, 0, 0, 112]), &[], &[]),
     (Trigger::Call(1, 15, [33, 0, 0, 2]), &[], &[]),
     (Trigger::Wfi(2), &[], &[1, 2, 10, 33, 46]),
@@ -268,9 +268,9 @@ fn a_waking_before_the_sleep_cancels_the_schedule(rt: HostRuntime) -> Result<(),
     Ok(())
 }
 
-/// Where a processor that is woken by a call starts.
+/// The addresses at which processors start that a call wakes.
 static ADDRESSES: [Turn; 20] = [
-    // one that was off: at 0 without bit 0, else at the address without that bit
+    // one that was off: at 0 without bit 0, else at the address, less that bit
     (Trigger::Call(1, 10, [3, 0x3000, 5, 2]), &[(3, 0)], &[3]),
     (Trigger::Call(1, 10, [4, 1, 0, 2]), &[(4, 0)], &[4]),
     (
@@ -278,7 +278,7 @@ static ADDRESSES: [Turn; 20] = [
         &[(5, 0xFFFF_FFFF_FFFF_FFFE)],
         &[5],
     ),
-    // one that is asleep: where it suspended without bit 0, else at the address
+    // one that is asleep: at its resume address without bit 0, else at the address
     (Trigger::Call(7, 7, [7, 0, 0, 0x2000]), &[], &[]),
     (Trigger::Wfi(7), &[], &[6, 7]),
     (
@@ -301,7 +301,7 @@ static ADDRESSES: [Turn; 20] = [
     (Trigger::Call(1, 10, [7, 0x3001, 0, 2]), &[], &[]),
     (Trigger::Wfi(7), &[], &[]),
     (Trigger::Call(1, 10, [7, 0x3001, 0, 2]), &[], &[]),
-    // who may not wake a processor that is asleep starts nothing, and its own master does
+    // a caller that may not wake a sleeping processor starts nothing; its own master may
     (Trigger::Call(1, 7, [2, 0, 0, 16]), &[], &[]),
     (Trigger::Wfi(2), &[], &[2]),
     (Trigger::Call(7, 10, [2, 1, 0, 2]), &[], &[]),

@@ -13,7 +13,7 @@ use Rattle.pm_calls.specs.Verdict.{Called, changing, saying}
 abbrev pub is_reason : ℕ → Bool
 is_reason reason = nat_le 100 reason && nat_le reason 103
 
--- a processor that is suspending goes on; for an active one a request that is pending on the caller is refused
+-- the last check: a suspending processor goes on, and an active one refuses a request that is pending on the caller
 abbrev pub to_abort : (pending : Bool) → Mode → Standing
 to_abort pending Suspending = Fits
 to_abort true Active = Fits
@@ -30,7 +30,7 @@ abort_checks reason pending view =
 abbrev pub goes_on : ℕ → ProcView → List Prim
 goes_on m view = if is_in Suspending view then proc_changes m Active (address_in view) view else []
 
--- the request that is pending on the caller, if there is one, ends
+-- the call with the end of a request that is pending on the caller
 abbrev pub abort_suspend : ℕ → ℕ → Bool → ProcView → Called
 abort_suspend m reason pending view =
     record (changing (abort_checks reason pending view) (goes_on m view)) { effects = saying (Some (Abort m)) }

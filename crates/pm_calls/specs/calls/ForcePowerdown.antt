@@ -21,8 +21,8 @@ force_powerdown_checks grants fixed m node ack = record unchecked {
   permitted = permits_force grants m (kind_of fixed.topology node);
 }
 
--- each processor that is the node or is below it goes off, and then all rows on the slaves below it are cleared but for their
--- presets
+-- each processor that the node is, or that is below it, goes off; after that all rows on the slaves below it are
+-- cleared, but keep their presets
 abbrev pub force_stages : Fixed → NodeId → List (List Prim)
 force_stages fixed node = offs fixed (Under node) ∷ clears fixed node ∷ []
 

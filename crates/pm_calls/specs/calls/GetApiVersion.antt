@@ -7,6 +7,6 @@ use Rattle.pm_calls.specs.Verdict.{Called, effecting, told}
 abbrev pub api_version : ℕ
 api_version = 65537
 
--- nothing is checked
+-- the call that tells the version; it has no checks
 abbrev pub get_api_version : Called
 get_api_version = effecting unchecked (told (api_version ∷ 0 ∷ 0 ∷ []))

@@ -8,6 +8,7 @@ use Rattle.pm_calls.specs.Verdict.{Called, effecting, told}
 abbrev pub status_checks : StatusView → Checks
 status_checks view = record unchecked { node = is_some view.state }
 
--- the words are the node's state, and for a slave the capabilities that the caller wants now and who uses it
+-- the call that tells the node's operating point, and for a slave the capabilities that the caller requires now and
+-- who uses it
 abbrev pub get_node_status : StatusView → Called
 get_node_status view = effecting (status_checks view) (told (unwrap_or view.state 0 ∷ view.requested.0 ∷ view.usage ∷ []))

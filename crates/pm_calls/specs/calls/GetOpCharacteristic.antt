@@ -21,7 +21,7 @@ get_op_characteristic_checks characteristic view = record unchecked {
 abbrev pub characteristic_of : ℕ → Characteristics → ℕ
 characteristic_of characteristic has = if characteristic == 1 then has.figure else has.latency
 
--- the word is the power figure or the latency of the node as it stands
+-- the call that tells the power figure or the latency of the node in its present state
 abbrev pub get_op_characteristic : ℕ → Option Characteristics → Called
 get_op_characteristic characteristic view =
     effecting (get_op_characteristic_checks characteristic view)

@@ -4,6 +4,6 @@ use Rattle.pm_calls.specs.Checks.{unchecked}
 use Rattle.pm_state.specs.Prims.{Settle}
 use Rattle.pm_calls.specs.Verdict.{Called, changing}
 
--- nothing is checked: the caller's holds are dropped
+-- the call that drops the caller's holds; it has no checks
 abbrev pub init_finalize : ℕ → Called
 init_finalize m = changing unchecked (Settle m ∷ [])

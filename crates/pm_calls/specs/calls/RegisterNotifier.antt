@@ -41,14 +41,14 @@ register_checks event enable view = record unchecked {
   permitted = may_watch view;
 }
 
--- the notifier of the master at place m for an event of a node, on or off
+-- the notifier of the master at place m for an event of a node, set or removed
 abbrev pub notifier_of : ℕ → NodeId → ℕ → NodeEvent → Notifier
 notifier_of m node enable event = record { master = m; node = node; event = event; on = enable == 1 }
 
 abbrev pub notifier_put : ℕ → NodeId → ℕ → NodeEvent → Say
 notifier_put m node enable event = Register (notifier_of m node enable event)
 
--- the caller is told of the event from now on, or isn't any more
+-- the call that sets or removes the caller's notifier for this event
 abbrev pub register_notifier : ℕ → NodeId → (event enable : ℕ) → Watched → Called
 register_notifier m node event enable view =
     effecting (register_checks event enable view) (saying (option_map (notifier_put m node enable) (event_of event)))

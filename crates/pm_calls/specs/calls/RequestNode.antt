@@ -9,17 +9,17 @@ use Rattle.pm_calls.specs.Checks.{Checks, Standing, Fits, InUse, UsedBy, uncheck
 use Rattle.pm_calls.specs.RowCalls.{is_in_use, can_have, row_changes}
 use Rattle.pm_calls.specs.Verdict.{Called, changing}
 
--- nobody else may use a slave that can't be shared
+-- another master that uses the slave is in the way if the slave can't be shared
 abbrev pub rivalled : Option NodeId → Standing
 rivalled None = Fits
 rivalled (Some other) = UsedBy other
 
--- the caller doesn't use the slave yet
+-- the last check: the caller doesn't use the slave yet, and has no rival
 abbrev pub to_request : RowView → Standing
 to_request view = if is_in_use view then InUse else rivalled view.rival
 
--- the acknowledge kind is known, the node is a slave, the caller may use it, the slave has the
--- capabilities, the caller doesn't use it yet, and no other master does where it can't be shared
+-- the acknowledge kind is known, the node is a slave, the caller may use it, the slave has the capabilities, the
+-- caller doesn't use it yet, and, if the slave can't be shared, no other master does
 abbrev pub request_checks : Caps → ℕ → RowView → Checks
 request_checks caps ack view = record unchecked {
   acknowledge = is_some (ack_kind ack);
@@ -29,6 +29,6 @@ request_checks caps ack view = record unchecked {
   standing = to_request view;
 }
 
--- the slave is used from now on, with these capabilities
+-- the call that puts the slave into use, with these capabilities
 abbrev pub request_node : Caps → ℕ → RowView → Called
 request_node caps ack view = changing (request_checks caps ack view) (row_changes (Request caps) view)

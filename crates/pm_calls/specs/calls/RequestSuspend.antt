@@ -13,7 +13,7 @@ use Rattle.pm_calls.specs.declared.views.Suspendable.{Suspendable}
 use Rattle.pm_calls.specs.Checks.{Checks, Standing, Fits, InUse, WrongMode, unchecked}
 use Rattle.pm_calls.specs.Verdict.{Called, effecting, saying}
 
--- an active master is asked to suspend, unless a request is pending on it already
+-- the last check: no request is pending on the target yet, and it is active
 abbrev pub to_ask : (pending : Bool) → Mode → Standing
 to_ask true mode = InUse
 to_ask false Active = Fits
@@ -35,7 +35,7 @@ request_suspend_checks ack view = record unchecked {
   standing = to_suspend_other view.target;
 }
 
--- what the target is asked: the request of the caller, with the time that the object gives the target
+-- the request to the target: the caller's words, and the timeout that the object gives the target
 abbrev pub asked_of : ℕ → NodeId → (ack latency state : ℕ) → Suspendable → Asked
 asked_of m node ack latency state target = record {
   target = target.master;

@@ -29,7 +29,8 @@ request_wakeup_checks ack view = record unchecked {
   standing = to_wake_other view.target;
 }
 
--- the processor is active, and resumes at this address, or where it was to resume if there is none: one that was off at 0
+-- the change: the processor is active, and resumes at this address; without an address at its own, which is 0 after
+-- it was off
 abbrev pub woken_to : Option ℕ → Option ℕ → Option Wakeable → List Prim
 woken_to address (Some p) (Some target) = Put_proc target.owner p Active (unwrap_or address target.proc.address) ∷ []
 woken_to address (Some p) None = []

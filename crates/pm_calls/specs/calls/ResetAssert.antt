@@ -17,7 +17,7 @@ abbrev pub reset_checks : ℕ → LineView → Checks
 reset_checks action view =
     record unchecked { node = is_some view.place; arguments = in_range (is_action action); permitted = view.permitted }
 
--- the line at this place is asserted or released
+-- the change of the line at this place: asserted or released
 abbrev pub line_put : Option ℕ → Bool → List Prim
 line_put None asserted = []
 line_put (Some l) asserted = Put_line l asserted ∷ []
@@ -31,11 +31,11 @@ stopped (Some target) = Put_proc target.owner target.proc Off 0 ∷ []
 abbrev pub stopped_by : ℕ → Option OwnedProc → List Prim
 stopped_by action target = if action == 0 then [] else stopped target
 
--- asserted, the line is at 1, and else at 0; asserted or pulsed, it stops its processor
+-- an asserted line has the value 1, any other 0; asserted or pulsed, it stops its processor
 abbrev pub reset_changes : ℕ → LineView → List Prim
 reset_changes action view = line_put view.place (action == 1) ++ stopped_by action view.target
 
--- the line that is pulsed
+-- the line, if the action is a pulse
 abbrev pub pulsed : ℕ → LineId → Option LineId
 pulsed action line = if action == 2 then Some line else None
 

@@ -7,6 +7,6 @@ use Rattle.pm_calls.specs.Verdict.{Called, effecting, told}
 abbrev pub reset_status_checks : Option ℕ → Checks
 reset_status_checks value = record unchecked { node = is_some value }
 
--- the word is the value of the line
+-- the call that tells the value of the line
 abbrev pub reset_get_status : Option ℕ → Called
 reset_get_status value = effecting (reset_status_checks value) (told (unwrap_or value 0 ∷ 0 ∷ 0 ∷ []))

@@ -7,7 +7,7 @@ use Rattle.pm_calls.specs.Checks.{Checks, Standing, Fits, InUse, WrongMode}
 use Rattle.pm_calls.specs.ProcCalls.{by_mode, on_own, proc_changes}
 use Rattle.pm_calls.specs.Verdict.{Called, changing}
 
--- only an active processor starts to suspend
+-- the last check: only an active processor starts to suspend
 abbrev pub to_suspend : Mode → Standing
 to_suspend Active = Fits
 to_suspend Suspending = InUse
@@ -18,6 +18,6 @@ to_suspend Off = WrongMode
 abbrev pub self_suspend_checks : ProcView → Checks
 self_suspend_checks view = record (on_own view) { standing = by_mode to_suspend view.own }
 
--- the processor suspends from now on, and is to resume at this address
+-- the call that starts the suspend of the processor, which is to resume at this address
 abbrev pub self_suspend : ℕ → ℕ → ProcView → Called
 self_suspend m address view = changing (self_suspend_checks view) (proc_changes m Suspending address view)

@@ -8,26 +8,26 @@ use Rattle.pm_state.specs.declared.objects.Found.{Found}
 use Rattle.pm_state.specs.declared.objects.Found.TheVariants.{Nothing, Unreadable, Unusable, Usable}
 use Rattle.pm_state.specs.Prims.{Prim, Enforce}
 
--- what is told where no object that can be put in force stands at the address: what is wrong with words that are no object, and
--- where
+-- none if an object that can be put in force is at the address, else the words of the refusal: for words that are no
+-- object the cause and the place of the fault
 abbrev pub unfit_words : Found → Option (List ℕ)
 unfit_words Nothing = Some (0 ∷ 0 ∷ 0 ∷ [])
 unfit_words (Unreadable fault) = Some (cause_number fault.cause ∷ fault.offset ∷ 0 ∷ [])
 unfit_words Unusable = Some (0 ∷ 0 ∷ 0 ∷ [])
 unfit_words (Usable k) = None
 
--- an object that can be put in force stands at the address, and the caller may set the configuration
+-- an object that can be put in force is at the address, and the caller may set the configuration
 abbrev pub set_configuration_checks : Found → (permitted : Bool) → Checks
 set_configuration_checks found permitted = record unchecked { arguments = unfit_words found; permitted = permitted }
 
--- that object is in force
+-- the change that puts that object in force
 abbrev pub enforced_by : Found → List Prim
 enforced_by Nothing = []
 enforced_by (Unreadable fault) = []
 enforced_by Unusable = []
 enforced_by (Usable k) = Enforce k ∷ []
 
--- and no master is told of anything any more
+-- the call that puts the object in force and removes all notifiers
 abbrev pub set_configuration : Found → (permitted : Bool) → Called
 set_configuration found permitted =
     record (changing (set_configuration_checks found permitted) (enforced_by found)) { effects = saying (Some Unwatch) }

@@ -15,7 +15,7 @@ abbrev pub set_requirement_checks : Caps → ℕ → RowView → Checks
 set_requirement_checks caps ack view =
     record (on_used view) { acknowledge = is_some (ack_kind ack); capable = can_have caps view }
 
--- the caller, which is in this mode, requires these capabilities: at once while it is active, and from its sleep on while it
--- is suspending
+-- the call that requires these capabilities, by the caller's mode: at once if it is active, and from its sleep on if
+-- it is suspending
 abbrev pub set_requirement : Mode → Caps → ℕ → RowView → Called
 set_requirement mode caps ack view = changing (set_requirement_checks caps ack view) (row_changes (Set mode caps) view)

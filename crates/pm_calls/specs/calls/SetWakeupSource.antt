@@ -24,11 +24,11 @@ set_wakeup_source_checks enable target source = record unchecked {
   capable = can_have wakeup source;
 }
 
--- the row is armed with the processor, or with none
+-- the change that arms the row with the processor, or disarms it
 abbrev pub arming : NodeId → ℕ → Change
 arming node enable = Arm (if enable == 1 then Some node else None)
 
--- the interrupt of the slave wakes this processor from now on, or none
+-- the call that lets the slave's interrupt wake this processor, or none
 abbrev pub set_wakeup_source : NodeId → ℕ → ProcView → RowView → Called
 set_wakeup_source node enable target source =
     changing (set_wakeup_source_checks enable target source) (row_changes (arming node enable) source)

@@ -20,17 +20,17 @@ system_shutdown_checks grants m shutdown_type subtype = record unchecked {
   permitted = (shutdown_type == 2) || permits_shut grants m subtype;
 }
 
--- this processor of the master starts at address 0, if there is one
+-- the first processor of the master starts at address 0, if it has one
 abbrev pub starting : ℕ → Option ℕ → List Prim
 starting m None = []
 starting m (Some p) = Put_proc m p Active 0 ∷ []
 
--- the caller's processors go off; and then its first one starts, where it restarts
+-- the caller's processors go off; in a restart its first one then starts
 abbrev pub own_stages : Fixed → ℕ → (restarts : Bool) → List (List Prim)
 own_stages fixed m false = offs fixed (Own m) ∷ []
 own_stages fixed m true = offs fixed (Own m) ∷ starting m (first_own fixed m) ∷ []
 
--- all processors go off, and then the book is halted, or is as at load
+-- all processors go off; then the book is halted, or put back as at load
 abbrev pub stop_all : Fixed → List (List Prim)
 stop_all fixed = offs fixed All ∷ (Halt ∷ []) ∷ []
 
@@ -41,18 +41,18 @@ abbrev pub all_stages : Fixed → (restarts : Bool) → List (List Prim)
 all_stages fixed false = stop_all fixed
 all_stages fixed true = restart_all fixed
 
--- what the call does, by its type (0 shutdown, 1 restart, 2 scope) and subtype (0 the caller, 1 and 2 all)
+-- the stages, by the type (0 shutdown, 1 restart, 2 scope) and the subtype (0 the caller, 1 and 2 everything)
 abbrev pub shutdown_stages : Fixed → (m shutdown_type subtype : ℕ) → List (List Prim)
 shutdown_stages fixed m shutdown_type subtype =
     if shutdown_type == 2 then []
     else if subtype == 0 then own_stages fixed m (shutdown_type == 1)
     else all_stages fixed (shutdown_type == 1)
 
--- whether it restarts all
+-- whether a shutdown restarts everything
 abbrev pub restarts_all : (shutdown_type subtype : ℕ) → Bool
 restarts_all shutdown_type subtype = (shutdown_type == 1) && not (subtype == 0)
 
--- then what the masters are told is as at load
+-- after a restart of everything, what the masters are told is as at load
 abbrev pub renewal : Bool → Option Say
 renewal all = if all then Some Renew else None
 

@@ -19,7 +19,10 @@ const TEMPERATURE: u32 = 2;
 
 const LATENCY: u32 = 3;
 
-/// Tells the power figure or the latency of a node as it stands. Of a temperature nothing is known.
+/// Tells the power figure (characteristic 1) or the latency (3) of a node in its present state. No permission is
+/// needed.
+/// Refused with INVALID_NODE if the chip has no such node, INVALID_PARAMETER if the characteristic is unknown, and
+/// NO_FEATURE for the temperature (2), which the product doesn't know.
 pub fn serve(
     tables: &Tables,
     caches: &Caches,

@@ -12,7 +12,7 @@ use pm_ipi::status::{INVALID_NODE, INVALID_PARAMETER, NO_ACCESS};
 use pm_notify::NodeEvent;
 use pm_state::Tables;
 
-/// Whether the event can happen to the node: any node changes, and only a slave has users.
+/// Whether the event can happen to the node: the value of any node can change, but only a slave has users.
 fn can_happen(event: NodeEvent, view: &Watched) -> bool
     ensures { result ≡ can_happen (Some event) view.now }
 {
@@ -22,7 +22,7 @@ fn can_happen(event: NodeEvent, view: &Watched) -> bool
     }
 }
 
-/// Whether the caller may be told of it: a slave needs a permission, and a power node none.
+/// Whether the caller may be told of the node: of a slave if it may use it, and of any power node.
 fn may_watch(view: &Watched) -> bool
     ensures { result ≡ may_watch view.now }
 {
@@ -33,7 +33,10 @@ fn may_watch(view: &Watched) -> bool
     }
 }
 
-/// The caller is told of the event of the node from now on, or not any more.
+/// Sets (`enable` 1) or removes (0) the caller's notifier for an event of a node.
+/// Refused with INVALID_NODE if the node is neither a slave nor a power node, INVALID_PARAMETER if the event is
+/// unknown or can't happen to the node or `enable` is another word, and NO_ACCESS if the caller may not use the
+/// slave.
 pub fn serve(
     tables: &Tables,
     master: usize,

@@ -1,6 +1,7 @@
 //! PM_REQUEST_NODE (UG1200).
 
 ghost use Rattle.std.specs.Prelude.{◌≡◌};
+ghost use Rattle.pm_state.specs.Changes.{written_along};
 ghost use Rattle.pm_calls.specs.Verdict.{stages_of, verdict_of};
 ghost use Rattle.pm_calls.specs.calls.RequestNode.{request_node};
 ghost use Rattle.pm_state.specs.Stages.{after_stages};
@@ -13,11 +14,15 @@ use pm_base::{Caps, NodeId};
 use pm_ipi::status::{DOUBLE_REQUEST, INVALID_NODE, INVALID_PARAMETER, NO_ACCESS, NO_FEATURE};
 use pm_ipi::{Response, ack_kind};
 use pm_rows::Change;
-use pm_state::Tables;
+use pm_state::{Changes, Tables};
 
-/// The caller uses the slave from now on, with these capabilities.
+/// Begins the caller's use of a slave, and requires these capabilities of it.
+/// Refused with INVALID_PARAMETER if the acknowledge kind is unknown, INVALID_NODE if the node is no slave, NO_ACCESS
+/// if the caller may not use it, NO_FEATURE if the slave lacks a capability, DOUBLE_REQUEST if the caller uses it
+/// already, and NODE_USED if another master does and it can't be shared.
 pub fn serve(
     tables: &mut Tables,
+    changes: &mut Changes,
     master: usize,
     node: NodeId,
     caps: Caps,
@@ -27,6 +32,8 @@ pub fn serve(
     ensures verdict { verdict.new ≡ verdict_of (request_node caps ack (row_view master node tables.old)) }
     ensures book { tables.new
         ≡ after_stages (stages_of (request_node caps ack (row_view master node tables.old))) tables.old }
+    ensures written { changes.new
+        ≡ written_along (stages_of (request_node caps ack (row_view master node tables.old))) tables.old changes.old }
 {
     if ack_kind(ack).is_none() {
         return verdict.refuse(INVALID_PARAMETER);
@@ -46,6 +53,11 @@ pub fn serve(
     if let Some(rival) = rival_node(tables, master, slave) {
         return verdict.refuse_by(Response::used_by(rival));
     }
-    tables.row_stage(entry.seed.master, entry.seed.slave, Change::Request(caps));
+    tables.row_stage(
+        entry.seed.master,
+        entry.seed.slave,
+        Change::Request(caps),
+        changes,
+    );
     verdict.finish()
 }

@@ -13,8 +13,11 @@ use pm_ipi::status::{DOUBLE_REQUEST, FAILURE, INVALID_NODE, INVALID_PARAMETER, N
 use pm_procs::{Pending, same_mode};
 use pm_state::Tables;
 
-/// The target is asked to suspend. The caller is answered when the request ends. The target hears how
-/// long it may take to be back, and the state that is asked for.
+/// Asks another master to suspend. The target is told how long it may take to be back, the state that is asked for,
+/// and its timeout. The caller is answered when the request ends.
+/// Refused with INVALID_PARAMETER if the acknowledge kind is unknown, INVALID_NODE if the node can't name a master,
+/// NO_ACCESS if the object doesn't permit it, DOUBLE_REQUEST if a request is pending on the target already, and
+/// FAILURE if the target isn't active.
 pub fn serve(
     tables: &Tables,
     master: usize,

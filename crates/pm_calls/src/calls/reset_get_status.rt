@@ -11,7 +11,8 @@ use pm_base::LineId;
 use pm_ipi::status::INVALID_NODE;
 use pm_state::Tables;
 
-/// Tells the value of a reset line.
+/// Tells the value of a reset line: 1 if it is asserted, else 0. No permission is needed. Refused with INVALID_NODE
+/// if the chip has no such line.
 pub fn serve(tables: &Tables, line: LineId, verdict: &mut Verdict)
     ensures { verdict.new ≡ verdict_of (reset_get_status (line_status line tables.now)) }
 {

@@ -1,6 +1,7 @@
 //! PM_SET_MAX_LATENCY (UG1200).
 
 ghost use Rattle.std.specs.Prelude.{◌≡◌};
+ghost use Rattle.pm_state.specs.Changes.{written_along};
 ghost use Rattle.pm_calls.specs.Verdict.{stages_of, verdict_of};
 ghost use Rattle.pm_state.specs.Stages.{after_stages};
 ghost use Rattle.pm_calls.specs.Views.{row_view};
@@ -10,13 +11,25 @@ use crate::verdict::Verdict;
 use pm_base::NodeId;
 use pm_ipi::status::{INVALID_NODE, NO_ACCESS};
 use pm_rows::Change;
-use pm_state::Tables;
+use pm_state::{Changes, Tables};
 
-/// The caller allows this latency at most of a slave that it uses.
-pub fn serve(tables: &mut Tables, master: usize, node: NodeId, latency: u32, verdict: &mut Verdict)
+/// Limits the latency of a slave that the caller uses: it goes to no state that takes longer to leave. The limit has
+/// the unit of the topology's latencies.
+/// Refused with INVALID_NODE if the node is no slave, and NO_ACCESS if the caller may not use it or doesn't use it.
+pub fn serve(
+    tables: &mut Tables,
+    changes: &mut Changes,
+    master: usize,
+    node: NodeId,
+    latency: u32,
+    verdict: &mut Verdict,
+)
     ensures verdict { verdict.new ≡ verdict_of (set_max_latency latency (row_view master node tables.old)) }
     ensures book { tables.new
         ≡ after_stages (stages_of (set_max_latency latency (row_view master node tables.old))) tables.old }
+    ensures written { changes.new ≡ written_along
+        (stages_of (set_max_latency latency (row_view master node tables.old)))
+        tables.old changes.old }
 {
     let Some(slave) = tables.slave_place(node) else {
         return verdict.refuse(INVALID_NODE);
@@ -27,6 +40,11 @@ pub fn serve(tables: &mut Tables, master: usize, node: NodeId, latency: u32, ver
     if !entry.row.used {
         return verdict.refuse(NO_ACCESS);
     }
-    tables.row_stage(entry.seed.master, entry.seed.slave, Change::Limit(latency));
+    tables.row_stage(
+        entry.seed.master,
+        entry.seed.slave,
+        Change::Limit(latency),
+        changes,
+    );
     verdict.finish()
 }

@@ -1,6 +1,7 @@
 //! PM_SET_REQUIREMENT (UG1200).
 
 ghost use Rattle.std.specs.Prelude.{◌≡◌};
+ghost use Rattle.pm_state.specs.Changes.{written_along};
 ghost use Rattle.pm_calls.specs.Verdict.{stages_of, verdict_of};
 ghost use Rattle.pm_state.specs.Members.{mode_of_master};
 ghost use Rattle.pm_state.specs.Stages.{after_stages};
@@ -13,12 +14,15 @@ use pm_base::{Caps, NodeId};
 use pm_ipi::ack_kind;
 use pm_ipi::status::{INVALID_NODE, INVALID_PARAMETER, NO_ACCESS, NO_FEATURE};
 use pm_rows::Change;
-use pm_state::Tables;
+use pm_state::{Changes, Tables};
 
-/// The caller requires these capabilities of a slave that it uses: at once
-/// while it is active, and from its sleep on while it is suspending.
+/// Requires these capabilities of a slave that the caller uses: at once if the caller is active, and from its sleep
+/// on if it is suspending.
+/// Refused with INVALID_PARAMETER if the acknowledge kind is unknown, INVALID_NODE if the node is no slave, NO_ACCESS
+/// if the caller may not use it or doesn't use it, and NO_FEATURE if the slave lacks a capability.
 pub fn serve(
     tables: &mut Tables,
+    changes: &mut Changes,
     master: usize,
     node: NodeId,
     caps: Caps,
@@ -32,6 +36,9 @@ pub fn serve(
         ≡ after_stages (stages_of
         (set_requirement (mode_of_master tables.old.fixed tables.old.now.core master) caps ack
         (row_view master node tables.old))) tables.old }
+    ensures written { changes.new ≡ written_along
+        (stages_of (set_requirement (mode_of_master tables.old.fixed tables.old.now.core master) caps ack (row_view master node tables.old)))
+        tables.old changes.old }
 {
     if ack_kind(ack).is_none() {
         return verdict.refuse(INVALID_PARAMETER);
@@ -49,6 +56,11 @@ pub fn serve(
         return verdict.refuse(NO_ACCESS);
     }
     let mode = tables.mode_of_master(master);
-    tables.row_stage(entry.seed.master, entry.seed.slave, Change::Set(mode, caps));
+    tables.row_stage(
+        entry.seed.master,
+        entry.seed.slave,
+        Change::Set(mode, caps),
+        changes,
+    );
     verdict.finish()
 }

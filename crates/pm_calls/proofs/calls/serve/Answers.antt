@@ -11,6 +11,7 @@ returns-in_default c =
     record {
       verdict = c.serve_once.ensures.verdict;
       book = c.serve_once.ensures.book;
+      written = c.serve_once.ensures.written;
       along = once_trailed (stages_of (called c.args.master c.args.call.now book)) book c.serve_once.new.tables c.args.along.now
           (called_once c.args.master c.args.call.now book (once_of c.args.call.now c.in_default.not-ForcePowerdown c.in_default.not-SystemShutdown))
           c.requires.along c.serve_once.ensures.book;

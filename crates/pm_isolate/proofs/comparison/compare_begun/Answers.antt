@@ -12,7 +12,7 @@ use Rattle.pm_isolate.specs.Differences.{isolate_report}
 use Rattle.pm_isolate.proofs.ComparedLemmas.{report_is}
 use Rattle.pm_isolate.proofs.comparison.compare_begun.Goals as goal
 
--- memory was wanted
+-- memory ran out
 pub returns-in-Err-clause-ran : goal.returns-in-Err-clause-ran
 returns-in-Err-clause-ran g c = inl c.refuse.ensures
 

@@ -1,4 +1,4 @@
--- Both books are loaded with what the front attaches. Where memory is wanted the script was read up to somewhere.
+-- Both books are loaded with what the block attaches. If memory runs out the script was read up to some point.
 use Rattle.std.proofs.Common.{◌≡◌, ◌∙◌, ◌==◌, IsTrue, List, ap, refl, subst, sym}
 use Rattle.std.specs.List.{list_any}
 use Rattle.std.proofs.lemmas.Result.{IfOk-at_ok}

@@ -1,4 +1,4 @@
--- What the block attaches is what was read. Where memory is wanted the script was read up to somewhere.
+-- What the block attaches is what was read. If memory runs out the script was read up to some point.
 use Rattle.std.proofs.Common.{◌≡◌, List, Ok, map, subst, sym}
 use Rattle.std.proofs.lemmas.Result.{IfOk-at_ok, IfOk-weaker}
 use Rattle.pm_object.specs.declared.attached.Attached.{Attached}

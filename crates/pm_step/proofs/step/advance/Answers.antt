@@ -1,12 +1,14 @@
-use Rattle.std.proofs.Common.{◌≡◌, false, true, length, sym, ◌∙◌, ap, subst, arith}
-use Rattle.pm_step.specs.Fresh.{IsFresh}
-use Rattle.pm_step.specs.Step.{path}
-use Rattle.pm_step.specs.Within.{may_move, rests}
+use Rattle.std.proofs.Common.{◌≡◌, ℕ, ◌==◌, Bool, true, false, not, List, [], length, refl, sym, ◌∙◌, ap, subst, arith}
+use Rattle.std.proofs.lemmas.Bool.{eqb-true}
+use Rattle.std.proofs.lemmas.List.{nil_from_length}
+use Rattle.pm_step.specs.Step.{stages}
+use Rattle.pm_state.specs.Changes.{Written, written_along}
+use Rattle.pm_state.specs.Prims.{Prim}
 use Rattle.pm_state.specs.State.{Fixed, State}
 use Rattle.pm_state.specs.Units.{units}
-use Rattle.pm_values.specs.Along.{HasPlaces as HasTrail, IsTrail, Trail, modes_of, trail_from}
+use Rattle.pm_values.specs.Along.{HasPlaces as HasTrail, Trail}
 use Rattle.pm_values.proofs.AlongLaw.{trailed_places}
-use Rattle.pm_step.proofs.StaysLaw.{moves_once, rests_fresh, rests_logged, rests_once, stays_fresh, stays_logged}
+use Rattle.pm_calls.proofs.StaysLaw.{LeavesProcs, none_written, stays_fresh, stays_logged}
 use Rattle.pm_step.proofs.step.advance.Goals as goal
 
 -- the places of the trail stay while it is logged
@@ -15,8 +17,8 @@ log-requires c =
     let Q : Fixed → Type 0 = λ f. HasTrail (length f.object.masters) (length f.topology.procs) c.take.new.along in
     subst Q (sym (ap (λ (b : State). b.fixed) c.take.ensures.book)) c.take.ensures.along.places
 
-pub returns-then-may_move-clause-places : goal.returns-then-may_move-clause-places
-returns-then-may_move-clause-places c =
+pub returns-then-telling-clause-places : goal.returns-then-telling-clause-places
+returns-then-telling-clause-places c =
     let old = c.args.tables.now in
     let mid = c.take.new.tables in
     let count : length mid.fixed.object.masters ≡ length old.fixed.object.masters = ap (λ (b : State). length b.fixed.object.masters) c.take.ensures.book in
@@ -29,66 +31,36 @@ returns-then-may_move-clause-places c =
       notices = omega (arith, all, c.requires.places.notices);
     }
 
--- no processor moves, and nothing is logged behind the first moment
-stays : (c : goal.Else-may_move) → may_move c.args.event.now c.take.new.taken ≡ false
-stays c = sym c.may_move.ensures ∙ c.if-may_move.false
+-- ---- no processor is written down
 
-logged : (c : goal.Else-may_move) → IsTrail c.args.tables.now (path c.args.event.now c.args.tables.now) c.take.new.along × (c.take.new.along.modes ≡ modes_of c.take.new.tables)
-logged c =
-    stays_logged c.args.event.now c.args.tables.now c.take.new.tables c.take.new.taken c.take.new.along c.take.ensures.served (stays c) c.take.ensures.book
-    (c.take.ensures.still (moves_once c.args.event.now c.take.new.taken (stays c)) ∙ c.requires.fresh.along)
+none_of : (xs : List ℕ) (empty : Bool) → empty ≡ (length xs == 0) → not empty ≡ false → xs ≡ []
+none_of xs true is none = nil_from_length xs (eqb-true (length xs) 0 (sym is))
+none_of xs false is none = cc
 
-pub returns-else-may_move-clause-along : goal.returns-else-may_move-clause-along
-returns-else-may_move-clause-along c = (logged c).0
+leaves_by : (steps : List (List Prim)) (book : State) (before after : Written) → before.procs.count ≡ length book.now.core.procs → after ≡ written_along steps book before → after.procs.list ≡ [] → LeavesProcs book steps
+leaves_by steps book before after each is none =
+    none_written steps book before each (sym (ap (λ (w : Written). w.procs.list) is) ∙ none)
 
-pub returns-else-may_move-clause-now : goal.returns-else-may_move-clause-now
-returns-else-may_move-clause-now c = (logged c).1
-
--- so what is kept of it is begun for the next step
-pub returns-else-may_move-clause-fresh : goal.returns-else-may_move-clause-fresh
-returns-else-may_move-clause-fresh c =
+pub returns-else-telling-clause-along : goal.returns-else-telling-clause-along
+returns-else-telling-clause-along c =
     let old = c.args.tables.now in
-    let mid = c.take.new.tables in
-    let same : trail_from mid ≡ trail_from old =
-    stays_fresh c.args.event.now old mid c.take.new.taken c.take.ensures.served (stays c) c.take.ensures.book
+    let steps = stages c.args.event.now old in
+    let none : c.take.new.changes.procs.list ≡ [] =
+    none_of c.take.new.changes.procs.list c.is_empty.result (c.is_empty.ensures ∙ ap (λ xs. length xs == 0) c.procs.ensures) c.if-telling.false
     in
+    let leaves = leaves_by steps old c.args.changes.now c.take.new.changes c.requires.procs c.take.ensures.written none in
+    stays_logged steps old c.take.new.along leaves (c.take.ensures.still none ∙ c.requires.fresh.along)
+
+pub returns-else-telling-clause-fresh : goal.returns-else-telling-clause-fresh
+returns-else-telling-clause-fresh c =
+    let old = c.args.tables.now in
+    let steps = stages c.args.event.now old in
+    let none : c.take.new.changes.procs.list ≡ [] =
+    none_of c.take.new.changes.procs.list c.is_empty.result (c.is_empty.ensures ∙ ap (λ xs. length xs == 0) c.procs.ensures) c.if-telling.false
+    in
+    let leaves = leaves_by steps old c.args.changes.now c.take.new.changes c.requires.procs c.take.ensures.written none in
+    let same = stays_fresh steps old c.take.new.tables leaves c.take.ensures.book in
     λ still. record {
       modes = c.requires.fresh.modes ∙ sym (ap (λ (t : Trail). t.modes) same);
-      along = c.take.ensures.still (moves_once c.args.event.now c.take.new.taken (stays c)) ∙ (c.requires.fresh.along ∙ sym same);
+      along = c.take.ensures.still none ∙ (c.requires.fresh.along ∙ sym same);
     }
-
--- an event without a stage leaves what is begun
-rested : (c : goal.Then-rests) → rests c.args.event.now c.take.new.taken ≡ true
-rested c = sym c.rests.ensures ∙ c.if-rests.true
-
-unlogged : (c : goal.Then-rests) → c.take.new.along ≡ trail_from c.args.tables.now
-unlogged c = c.take.ensures.still (rests_once c.args.event.now c.take.new.taken (rested c)) ∙ c.requires.fresh.along
-
-rest_logged : (c : goal.Then-rests) → IsTrail c.args.tables.now (path c.args.event.now c.args.tables.now) c.take.new.along × (c.take.new.along.modes ≡ modes_of c.take.new.tables)
-rest_logged c =
-    rests_logged c.args.event.now c.args.tables.now c.take.new.tables c.take.new.taken c.take.new.along c.take.ensures.served (rested c) c.take.ensures.book
-    (unlogged c)
-
-rest_fresh : (c : goal.Then-rests) → IsFresh c.take.new.tables (record c.args.telling.now { along = c.take.new.along })
-rest_fresh c =
-    let old = c.args.tables.now in
-    let mid = c.take.new.tables in
-    let same : trail_from mid ≡ trail_from old =
-    rests_fresh c.args.event.now old mid c.take.new.taken c.take.ensures.served (rested c) c.take.ensures.book
-    in
-    record {
-      modes = c.requires.fresh.modes ∙ sym (ap (λ (t : Trail). t.modes) same);
-      along = unlogged c ∙ sym same;
-    }
-
-pub returns-then-rests-clause-along : goal.returns-then-rests-clause-along
-returns-then-rests-clause-along c = (rest_logged c).0
-
-pub returns-then-rests-clause-now : goal.returns-then-rests-clause-now
-returns-then-rests-clause-now c = (rest_logged c).1
-
-pub returns-then-rests-clause-fresh : goal.returns-then-rests-clause-fresh
-returns-then-rests-clause-fresh c = λ still. rest_fresh c
-
-pub returns-then-rests-clause-rests : goal.returns-then-rests-clause-rests
-returns-then-rests-clause-rests c = λ rest. rest_fresh c

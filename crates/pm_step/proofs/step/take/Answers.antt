@@ -10,8 +10,9 @@ returns c =
     let event = c.args.event.now in
     let none = no_message event c.in_default.not-Ipi in
     record {
-      book = c.happen.ensures;
+      book = c.happen.ensures.book;
+      written = c.happen.ensures.written;
       served = sym (none_served event book none);
-      along = once_trailed (stages event book) book c.happen.new.tables c.args.along.now (stages_once event book none) c.requires.along c.happen.ensures;
-      still = λ stays. refl;
+      along = once_trailed (stages event book) book c.happen.new.tables c.args.along.now (stages_once event book none) c.requires.along c.happen.ensures.book;
+      still = λ none. refl;
     }

@@ -4,7 +4,7 @@ use Rattle.pm_rows.specs.Counted.{permitted_on}
 use Rattle.pm_rows.specs.Rows.{is_at}
 use Rattle.test_counts.proofs.sizes.rows_of.Given as goal
 
--- what is counted so far and what is left make the whole
+-- the count so far and the count of the rest add up to the whole
 abbrev pub invariant-loop-k : goal.invariant-loop-k
 invariant-loop-k l = record {
   few : l.all ≤ l.k;

@@ -1,27 +1,48 @@
 use Rattle.std.proofs.Common.{◌≡◌, ◌∙◌, ap}
 use Rattle.pm_state.specs.declared.scope.Scope.TheVariants.{Under}
-use Rattle.pm_values.specs.Along.{trailed}
 use Rattle.pm_state.specs.Prims.{changed}
 use Rattle.pm_state.specs.Scope.{clears, offs}
 use Rattle.pm_state.specs.Stages.{after_stage, followed}
-use Rattle.pm_state.specs.State.{State}
-use Rattle.pm_values.proofs.AlongLaw.{next_places, twice_trailed}
+use Rattle.pm_state.specs.State.{Fixed, State}
+use Rattle.pm_values.proofs.AlongLaw.{next_places}
+use Rattle.pm_calls.proofs.BetweenLaw.{between_trailed, between_still}
+use Rattle.pm_calls.proofs.StagesWritten.{stage_writes, twice_written}
 use Rattle.pm_calls.proofs.calls.force_powerdown.force.Goals as goal
 
-pub log-requires : goal.log-requires
-log-requires c =
+pub log_between-requires : goal.log_between-requires
+log_between-requires c =
     let mid : c.follow.new.self ≡ after_stage (offs c.args.tables.now.fixed (Under c.args.node)) c.args.tables.now =
-    c.follow.ensures ∙ ap followed c.take_off.ensures
+    c.follow.ensures.book ∙ ap followed c.take_off.ensures.book
     in
-    next_places c.args.tables.now c.follow.new.self c.args.along.now c.requires (ap (λ (b : State). b.fixed) mid)
+    next_places c.args.tables.now c.follow.new.self c.args.along.now c.requires.along (ap (λ (b : State). b.fixed) mid)
 
 pub returns-clause-along : goal.returns-clause-along
 returns-clause-along c =
     let book = c.args.tables.now in
     let first = offs book.fixed (Under c.args.node) in
     let later = clears book.fixed c.args.node in
-    let mid : c.follow.new.self ≡ after_stage first book = c.follow.ensures ∙ ap followed c.take_off.ensures in
-    twice_trailed first later book c.follow.new.self c.follow-2.new.self c.log.new.self mid
-    (c.log.ensures ∙ ap (trailed c.follow.new.self) c.requires)
-    (c.follow-2.ensures
-    ∙ (ap followed c.clear_below.ensures ∙ ap (λ (b : State). followed (changed (clears b.fixed c.args.node) b)) mid))
+    let mid : c.follow.new.self ≡ after_stage first book = c.follow.ensures.book ∙ ap followed c.take_off.ensures.book in
+    between_trailed first later book c.follow.new.self c.follow-2.new.self
+    c.args.changes.now c.follow.new.changes c.args.along.now c.log_between.new.along mid
+    (stage_writes first book c.take_off.new.self c.args.changes.now c.take_off.new.changes c.follow.new.changes
+    c.take_off.ensures.book c.take_off.ensures.written c.follow.ensures.written)
+    c.requires.places c.requires.along c.log_between.ensures
+    (c.follow-2.ensures.book
+    ∙ (ap followed c.clear_below.ensures.book ∙ ap (λ (b : State). followed (changed (clears b.fixed c.args.node) b)) mid))
+
+pub returns-clause-still : goal.returns-clause-still
+returns-clause-still c = λ none.
+    between_still (clears c.follow.new.self.fixed c.args.node) c.follow.new.self c.follow.new.changes c.follow-2.new.changes
+    c.args.along.now c.log_between.new.along
+    (stage_writes (clears c.follow.new.self.fixed c.args.node) c.follow.new.self c.clear_below.new.self
+    c.follow.new.changes c.clear_below.new.changes c.follow-2.new.changes
+    c.clear_below.ensures.book c.clear_below.ensures.written c.follow-2.ensures.written) c.log_between.ensures none
+
+pub returns-clause-written : goal.returns-clause-written
+returns-clause-written c =
+    let book = c.args.tables.now in
+    twice_written (offs book.fixed (Under c.args.node)) (λ (fixed : Fixed). clears fixed c.args.node)
+    book c.take_off.new.self c.follow.new.self c.clear_below.new.self
+    c.args.changes.now c.take_off.new.changes c.follow.new.changes c.clear_below.new.changes c.follow-2.new.changes
+    c.take_off.ensures.book c.take_off.ensures.written c.follow.ensures.book c.follow.ensures.written
+    c.clear_below.ensures.book c.clear_below.ensures.written c.follow-2.ensures.written

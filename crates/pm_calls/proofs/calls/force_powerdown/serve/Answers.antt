@@ -20,7 +20,7 @@ returns-then-is_none-clause-along c =
     in
     still_trailed (stages_of call) book c.args.along.now
     (none_done call (λ all. clash (is_some (ack_kind c.args.ack)) all.acknowledge fails))
-    c.requires
+    c.requires.along
 
 pub returns-then-not-can_be_forced-clause-along : goal.returns-then-not-can_be_forced-clause-along
 returns-then-not-can_be_forced-clause-along c =
@@ -30,7 +30,7 @@ returns-then-not-can_be_forced-clause-along c =
     let fails : forced ≡ false =
     ap can_be_forced (sym c.kind.ensures) ∙ (sym c.can_be_forced.ensures ∙ c.if-not-can_be_forced.true)
     in
-    still_trailed (stages_of call) book c.args.along.now (none_done call (λ all. clash forced all.node fails)) c.requires
+    still_trailed (stages_of call) book c.args.along.now (none_done call (λ all. clash forced all.node fails)) c.requires.along
 
 pub returns-then-not-permits_force-clause-along : goal.returns-then-not-permits_force-clause-along
 returns-then-not-permits_force-clause-along c =
@@ -38,4 +38,4 @@ returns-then-not-permits_force-clause-along c =
     let call = force_powerdown (grants_in book) book.fixed c.args.master c.args.node c.args.ack in
     let may = permits_force (grants_in book) c.args.master (kind_of book.fixed.topology c.args.node) in
     let fails : may ≡ false = sym c.permits_force.ensures ∙ c.if-not-permits_force.true in
-    still_trailed (stages_of call) book c.args.along.now (none_done call (λ all. clash may all.permitted fails)) c.requires
+    still_trailed (stages_of call) book c.args.along.now (none_done call (λ all. clash may all.permitted fails)) c.requires.along

@@ -19,7 +19,7 @@ returns-then-shutdown_type-gt2-clause-along c =
     let known = nat_le kind 2 && nat_le sub 2 in
     still_trailed (stages_of call) book c.args.along.now
     (none_done call (λ all. clash known (ranged known all.arguments) (isnt_known kind sub beyond)))
-    c.requires
+    c.requires.along
 
 pub returns-then-shutdown_type-eq-SCOPE-clause-along : goal.returns-then-shutdown_type-eq-SCOPE-clause-along
 returns-then-shutdown_type-eq-SCOPE-clause-along c =
@@ -27,7 +27,7 @@ returns-then-shutdown_type-eq-SCOPE-clause-along c =
     let call = system_shutdown (grants_in book) book.fixed c.args.master c.args.shutdown_type c.args.subtype in
     still_trailed (stages_of call) book c.args.along.now
     (nothing_done call (is_scope book.fixed c.args.master c.args.shutdown_type c.args.subtype c.if-shutdown_type-eq-SCOPE.true))
-    c.requires
+    c.requires.along
 
 pub returns-then-not-permits_shutdown-clause-along : goal.returns-then-not-permits_shutdown-clause-along
 returns-then-not-permits_shutdown-clause-along c =
@@ -38,4 +38,4 @@ returns-then-not-permits_shutdown-clause-along c =
     let may = permits_shut (grants_in book) c.args.master sub in
     still_trailed (stages_of call) book c.args.along.now
     (none_done call (λ all. clash ((kind == 2) || may) all.permitted (isnt_shut kind may c.if-shutdown_type-eq-SCOPE.false (sym c.permits_shutdown.ensures ∙ c.if-not-permits_shutdown.true))))
-    c.requires
+    c.requires.along

@@ -3,6 +3,7 @@ use Rattle.pm_state.specs.Below.{slaves_below}
 use Rattle.pm_state.specs.Scope.{clear}
 use Rattle.pm_state.specs.State.{Fixed, State}
 use Rattle.pm_state.proofs.ScopeLemmas.{visit_step}
+use Rattle.pm_state.proofs.WrittenLemmas.{visit_written}
 use Rattle.pm_state.proofs.tables.Tables.clear_slaves.Goals as goal
 
 pub loop-k-preserved : goal.loop-k-preserved
@@ -14,7 +15,10 @@ loop-k-preserved c =
     ∙ c.get-s.ensures
     in
     record {
-      fixed = ap (λ (b : State). b.fixed) c.clear_slave.ensures ∙ c.loop-k.invariant.fixed;
-      whole = visit_step clear places c.loop-k.k c.get-s.result.now c.loop-k.self c.clear_slave.new.self found c.clear_slave.ensures
+      fixed = ap (λ (b : State). b.fixed) c.clear_slave.ensures.book ∙ c.loop-k.invariant.fixed;
+      whole = visit_step clear places c.loop-k.k c.get-s.result.now c.loop-k.self c.clear_slave.new.self found c.clear_slave.ensures.book
           ∙ c.loop-k.invariant.whole;
+      written = visit_written clear places c.loop-k.k c.get-s.result.now c.loop-k.self c.clear_slave.new.self c.loop-k.changes c.clear_slave.new.changes found
+          c.clear_slave.ensures.book c.clear_slave.ensures.written
+          ∙ c.loop-k.invariant.written;
     }

@@ -1,6 +1,7 @@
 use Rattle.std.proofs.Common.{◌≡◌, drop}
 use Rattle.std.specs.List.{flat_map}
 use Rattle.pm_state.specs.Below.{slaves_below}
+use Rattle.pm_state.specs.Changes.{written_by}
 use Rattle.pm_state.specs.Prims.{changed}
 use Rattle.pm_state.specs.Scope.{clear}
 use Rattle.pm_state.proofs.tables.Tables.clear_slaves.Given as goal
@@ -11,4 +12,6 @@ invariant-loop-k l = record {
   fixed : l.self.fixed ≡ l.initial.self.fixed;
   whole : changed (flat_map clear (drop l.k (slaves_below l.initial.self.fixed.topology l.fn.w))) l.self
       ≡ changed (flat_map clear (slaves_below l.initial.self.fixed.topology l.fn.w)) l.initial.self;
+  written : written_by (flat_map clear (drop l.k (slaves_below l.initial.self.fixed.topology l.fn.w))) l.self l.changes
+      ≡ written_by (flat_map clear (slaves_below l.initial.self.fixed.topology l.fn.w)) l.initial.self l.fn.changes;
 }

@@ -1,9 +1,11 @@
 use Rattle.std.proofs.Common.{◌≡◌, ℕ, List, slice_get, Some, sym, ◌∙◌, ap}
 use Rattle.pm_state.specs.Below.{procs_below}
+use Rattle.pm_state.specs.Changes.{written_by}
 use Rattle.pm_state.specs.Prims.{changed}
 use Rattle.pm_state.specs.Scope.{off}
 use Rattle.pm_state.specs.State.{Fixed, State}
 use Rattle.pm_state.proofs.ScopeLemmas.{visit_step}
+use Rattle.pm_state.proofs.WrittenLemmas.{visit_written}
 use Rattle.pm_state.proofs.tables.Tables.put_off_below.Goals as goal
 
 pub loop-k-preserved : goal.loop-k-preserved
@@ -18,9 +20,14 @@ loop-k-preserved c =
     ∙ c.get-p.ensures
     in
     let went : c.put_off.new.self ≡ changed (off fixed p) book =
-    c.put_off.ensures ∙ ap (λ (f : Fixed). changed (off f p) book) c.loop-k.invariant.fixed
+    c.put_off.ensures.book ∙ ap (λ (f : Fixed). changed (off f p) book) c.loop-k.invariant.fixed
+    in
+    let wrote : c.put_off.new.changes ≡ written_by (off fixed p) book c.loop-k.changes =
+    c.put_off.ensures.written ∙ ap (λ (f : Fixed). written_by (off f p) book c.loop-k.changes) c.loop-k.invariant.fixed
     in
     record {
       fixed = ap (λ (b : State). b.fixed) went ∙ c.loop-k.invariant.fixed;
       whole = visit_step (off fixed) places c.loop-k.k p book c.put_off.new.self found went ∙ c.loop-k.invariant.whole;
+      written = visit_written (off fixed) places c.loop-k.k p book c.put_off.new.self c.loop-k.changes c.put_off.new.changes found went wrote
+          ∙ c.loop-k.invariant.written;
     }
