@@ -18,12 +18,12 @@ use Rattle.pm_record.specs.declared.kept.KeptValue.{KeptValue}
 use Rattle.pm_apply.specs.declared.turns.Turn.{Turn}
 use Rattle.pm_apply.specs.declared.turns.Turn.TheVariants.{PowerOn, Pulse, Apply, PowerOff}
 use Rattle.pm_apply.specs.Part.{part_of}
-use Rattle.pm_record.specs.declared.supplies.Supply.{Supply}
-use Rattle.pm_record.specs.Record.{Kept, is_place, kept_of, kept_value, mark, marked, supply_in, after_answer}
+use Rattle.pm_state.specs.Members.{is_place}
+use Rattle.pm_record.specs.Record.{Kept, kept_of, kept_value, mark, marked, after_answer}
 use Rattle.pm_record.specs.Kinds.{is_power}
 use Rattle.pm_apply.specs.Plan.{Carried, command, done_as, due, is_fed, is_used, later_answers, next_answer, plan, power_off, power_on, take_turn, turns_of, where_due}
 use Rattle.pm_apply.proofs.FailingLemmas.{part_by}
-use Rattle.pm_record.proofs.RecordLemmas.{kept_value-marked, supply_in-marked}
+use Rattle.pm_record.proofs.RecordLemmas.{kept_value-marked}
 
 -- ---- what a turn has depends on the values alone
 
@@ -69,17 +69,17 @@ module _ (t : Topology) (one two : Kept) (same : (u : Unit) → kept_value one u
 -- ---- records that are marked alike
 
 -- an entry with its mark, once the unit took a value
-abbrev taken : (Unit → ℕ) → Unit → ℕ → Supply → Unit × KeptValue → Unit × KeptValue
-taken values u v supply e = if same_unit e.0 u then (e.0, record { value = v; lags = not (v == values e.0); supply = supply }) else e
+abbrev taken : (Unit → ℕ) → Unit → ℕ → Unit × KeptValue → Unit × KeptValue
+taken values u v e = if same_unit e.0 u then (e.0, record { value = v; lags = not (v == values e.0) }) else e
 
-taken_entry : (values : Unit → ℕ) (u : Unit) (now : KeptValue) (e : Unit × KeptValue) → remade (mark values) (set_entry u now e) ≡ taken values u now.value now.supply (remade (mark values) e)
+taken_entry : (values : Unit → ℕ) (u : Unit) (now : KeptValue) (e : Unit × KeptValue) → remade (mark values) (set_entry u now e) ≡ taken values u now.value (remade (mark values) e)
 taken_entry values u now e = at (same_unit e.0 u)
   where
-    at : (same : Bool) → remade (mark values) (if same then (e.0, now) else e) ≡ (if same then (e.0, record { value = now.value; lags = not (now.value == values e.0); supply = now.supply }) else remade (mark values) e)
+    at : (same : Bool) → remade (mark values) (if same then (e.0, now) else e) ≡ (if same then (e.0, record { value = now.value; lags = not (now.value == values e.0) }) else remade (mark values) e)
     at true = refl
     at false = refl
 
-marked-set : (values : Unit → ℕ) (u : Unit) (now : KeptValue) (kept : Kept) → marked values (with_value u now kept) ≡ map (taken values u now.value now.supply) (marked values kept)
+marked-set : (values : Unit → ℕ) (u : Unit) (now : KeptValue) (kept : Kept) → marked values (with_value u now kept) ≡ map (taken values u now.value) (marked values kept)
 marked-set values u now [] = refl
 marked-set values u now (e ∷ kept) = let first = taken_entry values u now e in let later = marked-set values u now kept in cc
 
@@ -87,14 +87,10 @@ module _ (laws : ChipLaws) (t : Topology) (values : Unit → ℕ) where
   alike_values : (one two : Kept) → marked values one ≡ marked values two → (u : Unit) → kept_value one u ≡ kept_value two u
   alike_values one two alike u = sym (kept_value-marked laws values one u) ∙ ap (λ kept. kept_value kept u) alike ∙ kept_value-marked laws values two u
 
-  alike_supplies : (one two : Kept) → marked values one ≡ marked values two → (u : Unit) → supply_in one u ≡ supply_in two u
-  alike_supplies one two alike u = sym (supply_in-marked laws values one u) ∙ ap (λ kept. supply_in kept u) alike ∙ supply_in-marked laws values two u
-
   alike_after : (c : Command) (ok : Bool) (one two : Kept) → marked values one ≡ marked values two → marked values (after_answer c ok one) ≡ marked values (after_answer c ok two)
   alike_after c true one two alike =
       marked-set values c.unit (record (kept_of one c.unit) { value = c.value }) one
-      ∙ ap (map (taken values c.unit c.value (supply_in one c.unit))) alike
-      ∙ ap (λ supply. map (taken values c.unit c.value supply) (marked values two)) (alike_supplies one two alike c.unit)
+      ∙ ap (map (taken values c.unit c.value)) alike
       ∙ sym (marked-set values c.unit (record (kept_of two c.unit) { value = c.value }) two)
   alike_after c false one two alike = alike
 

@@ -1,29 +1,18 @@
 -- The command of a unit by its entry in the record.
-use Rattle.std.proofs.Common.{◌≡◌, ℕ, ◌==◌, Bool, true, false, not, ◌&&◌, ◌||◌, None, Some, slice_get, refl, sym, ap, ◌∙◌}
-use Rattle.std.specs.Prelude.{unwrap_or}
+use Rattle.std.proofs.Common.{◌≡◌, ℕ, ◌==◌, Bool, true, false, not, ◌&&◌, ◌||◌, None, Some, slice_get, sym, ap, ◌∙◌}
 use Rattle.std.specs.Option.{option_map}
 use Rattle.std.proofs.lemmas.Option.{same_Some, slice_get-map}
 use Rattle.pm_base.specs.declared.names.Command.{Command}
 use Rattle.pm_base.specs.declared.names.Unit.{Unit}
 use Rattle.pm_topology.specs.declared.topology.Topology.{Topology}
 use Rattle.pm_topology.specs.UnitMap.{units_in}
-use Rattle.pm_topology.specs.Units.{has_in, has_unit, needs_power, parent_of_unit, rises, units_of}
-use Rattle.pm_topology.specs.WellFormed.{IsWellFormed}
+use Rattle.pm_topology.specs.Units.{needs_power, parent_of_unit, rises, units_of}
 use Rattle.pm_record.specs.declared.kept.KeptValue.{KeptValue}
-use Rattle.pm_record.specs.declared.supplies.Supply.{Supply}
 use Rattle.pm_record.specs.Kinds.{is_power}
 use Rattle.pm_apply.specs.Plan.{apply, command, is_fed, where_due}
-use Rattle.pm_record.specs.Record.{HasSupplies, Kept, kept_of, kept_value, supply_of}
+use Rattle.pm_record.specs.Record.{Kept, kept_of, kept_value}
 use Rattle.pm_record.proofs.Below.{ChipLaws}
-use Rattle.pm_apply.proofs.UsedLemmas.{needs_there}
 use Rattle.pm_record.proofs.EntryLemmas.{kept_at}
-use Rattle.pm_record.proofs.EntryLemmas.{has_at}
-
-swapped : (a b c : Bool) → (a && (b && c)) ≡ (b && (a && c))
-swapped true true c = refl
-swapped true false c = refl
-swapped false true c = refl
-swapped false false c = refl
 
 -- the command of a unit that takes its value is on that unit
 pub apply_unit : (t : Topology) (values : Unit → ℕ) (kept : Kept) (unit : Unit) (c : Command) → apply t values kept unit ≡ Some c → c.unit ≡ unit
@@ -34,7 +23,7 @@ apply_unit t values kept unit c is =
     at true is = ap (λ (c : Command). c.unit) (sym (same_Some (command unit (values unit)) c is))
     at false is = cc
 
-module _ (laws : ChipLaws) (t : Topology) (values : Unit → ℕ) (kept : Kept) (well : IsWellFormed t) (units : units_in kept ≡ units_of t) (supplies : HasSupplies t kept)
+module _ (laws : ChipLaws) (t : Topology) (values : Unit → ℕ) (kept : Kept) (units : units_in kept ≡ units_of t)
     (place : ℕ) (unit : Unit) (there : slice_get (units_in kept) place ≡ Some unit) where
   unit_at : slice_get (units_in kept) place ≡ option_map (λ (e : Unit × KeptValue). e.0) (slice_get kept place)
   unit_at = slice_get-map (λ (e : Unit × KeptValue). e.0) kept place
@@ -51,19 +40,7 @@ module _ (laws : ChipLaws) (t : Topology) (values : Unit → ℕ) (kept : Kept) 
         let same : e.0 ≡ unit = same_Some e.0 unit (ap (option_map (λ (e : Unit × KeptValue). e.0)) (sym here) ∙ (sym unit_at ∙ there)) in
         ap (kept_of kept) (sym same) ∙ kept_at laws.units kept place e (ap rises units ∙ (laws.units.are t).rising) here
 
-    supply_is : e.1.supply ≡ supply_of t unit
-    supply_is =
-        let same : e.0 ≡ unit = same_Some e.0 unit (ap (option_map (λ (e : Unit × KeptValue). e.0)) (sym here) ∙ (sym unit_at ∙ there)) in
-        let known : has_unit t unit ≡ true = sym (laws.units.found t unit) ∙ (ap (λ us. has_in us unit) (sym units) ∙ (ap (has_in (units_in kept)) (sym same) ∙ has_at laws.units kept place e here)) in
-        ap (λ (k : KeptValue). k.supply) (sym entry_is) ∙ supplies unit known
-
-    abbrev takes_by_entry : ℕ → Supply → Bool
-    takes_by_entry value supply = not (value == values unit) && (not (is_power t unit) && (not (unwrap_or (slice_get supply.powered (values unit)) false) || is_fed t kept supply.parent))
-
     -- its command is by that
-    pub apply_is : where_due (takes_by_entry e.1.value e.1.supply) (command unit (values unit)) ≡ apply t values kept unit
+    pub apply_is : where_due (not (is_power t unit) && (not (e.1.value == values unit) && (not (needs_power t unit (values unit)) || is_fed t kept (parent_of_unit t unit)))) (command unit (values unit)) ≡ apply t values kept unit
     apply_is =
-        ap (λ value. where_due (takes_by_entry value e.1.supply) (command unit (values unit))) (ap (λ (k : KeptValue). k.value) (sym entry_is))
-        ∙ (ap (λ supply. where_due (takes_by_entry (kept_value kept unit) supply) (command unit (values unit))) supply_is
-        ∙ (ap (λ needs. where_due (not (kept_value kept unit == values unit) && (not (is_power t unit) && (not needs || is_fed t kept (parent_of_unit t unit)))) (command unit (values unit))) (needs_there t unit (values unit) well)
-        ∙ ap (λ b. where_due b (command unit (values unit))) (swapped (not (kept_value kept unit == values unit)) (not (is_power t unit)) (not (needs_power t unit (values unit)) || is_fed t kept (parent_of_unit t unit)))))
+        ap (λ (k : KeptValue). where_due (not (is_power t unit) && (not (k.value == values unit) && (not (needs_power t unit (values unit)) || is_fed t kept (parent_of_unit t unit)))) (command unit (values unit))) (sym entry_is)

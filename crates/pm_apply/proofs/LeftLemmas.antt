@@ -16,15 +16,12 @@ use Rattle.pm_apply.specs.declared.turns.Turn.{Turn}
 use Rattle.pm_apply.specs.declared.turns.Turn.TheVariants.{PowerOn, Pulse, Apply, PowerOff}
 use Rattle.pm_apply.specs.Carried.{Takes}
 use Rattle.pm_apply.specs.Left.{Answers, Begins, HaveNone, IsFollowed, Passes, Waits, left_from, turns_left}
-use Rattle.pm_record.specs.Record.{after_answer, Kept, supply_in}
-use Rattle.pm_apply.specs.Plan.{Carried, answers_of, due, plan, pulse_before, turns_of, unit_turns, with_pulse}
+use Rattle.pm_record.specs.Record.{after_answer, Kept}
+use Rattle.pm_apply.specs.Plan.{Carried, answers_of, due, pulse_before, turns_of, unit_turns, with_pulse}
 use Rattle.pm_apply.specs.Room.{most, most_of}
 use Rattle.pm_record.proofs.Below.{ChipLaws}
 use Rattle.pm_apply.proofs.CountLemmas.{due_most}
 use Rattle.pm_apply.proofs.GapLemmas.{Gap, HaveNone-append}
-use Rattle.pm_apply.proofs.PlanLemmas.{plan-recorded}
-use Rattle.pm_record.proofs.RecordLemmas.{supply_in-after_answer}
-use Rattle.pm_apply.proofs.RecordLemmas.{supply_in-recorded}
 use Rattle.pm_apply.proofs.TakesLemmas.{Takes-none, Takes-refl, Takes-room, Takes-some, Takes-trans}
 use Rattle.pm_record.proofs.ListedLemmas.{drop_here}
 use Rattle.pm_apply.proofs.VisitsLemmas.{Each, Each-front, IsOpen, IsPulseOf, each_turn, no_pulse, none_pulses, plan_open, pulses_of, turn_open}
@@ -157,7 +154,6 @@ module _ (laws : ChipLaws) (t : Topology) (values : Unit → ℕ) (pulse : Optio
       let opened = turn_open laws t values pulse (units_of t) waits.turn kept command ok one.0 waits.has (record { are = followed.units; ready = followed.ready }) in
       record {
         units = opened.are;
-        supplies = λ x has. supply_in-after_answer laws command ok kept x ∙ followed.supplies x has;
         ready = opened.ready;
       }
 
@@ -246,10 +242,3 @@ module _ {D : Type 0} (Does : Act → D → D → Type 0) (t : Topology) (values
       subst (IsOpen values pulse units) (ap (λ (c : Carried). c.kept) way.takes.planned)
       (plan_open laws t values pulse units way.turns kept₀ (answers_of way.takes.done)
       (Each-front (IsPulseOf pulse) way.turns (turns_left t pulse c) (subst (Each (IsPulseOf pulse)) (sym way.all) (pulses_of t pulse))) opened)
-
-  -- and the supplies are those that it had
-  pub way_supplies : ChipLaws → (c : Carrying) (kept : Kept) (done : List Done) (m : D) → IsUnderWay c kept done m → (x : Unit) → supply_in kept x ≡ supply_in kept₀ x
-  way_supplies laws c kept done m way x =
-      ap (λ (c : Carried). supply_in c.kept x) (sym way.takes.planned)
-      ∙ ap (λ kept. supply_in kept x) (plan-recorded t values way.turns kept₀ (answers_of way.takes.done))
-      ∙ supply_in-recorded laws (plan t values way.turns kept₀ (answers_of way.takes.done)).done kept₀ x

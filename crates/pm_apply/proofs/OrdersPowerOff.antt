@@ -1,5 +1,5 @@
 -- Power nodes go down: one that should be down and isn't has a failed command on it or on a unit below it.
-use Rattle.std.proofs.Common.{◌≡◌, ◌≢◌, ℕ, ◌+◌, ◌≤◌, Bool, true, false, ◌&&◌, Option, Some, None, List, [], ◌∷◌, ◌++◌, map, refl, ap, sym, ◌∙◌, subst, arith, ◌⊎◌, inl, inr, zero, suc}
+use Rattle.std.proofs.Common.{◌≡◌, ◌≢◌, ℕ, ◌+◌, ◌≤◌, Bool, true, false, ◌&&◌, Some, None, List, [], ◌∷◌, ◌++◌, map, refl, ap, sym, ◌∙◌, subst, arith, ◌⊎◌, inl, inr, zero, suc}
 use Rattle.std.specs.Prelude.{slice_get}
 use Rattle.std.proofs.lemmas.Bool.{cases_lt, cases_Bool, and_parts, both_ways, eqb-true, eqb-false, false_from_ne_true}
 use Rattle.pm_topology.specs.Units.{needs_power, parent_of_unit}
@@ -17,7 +17,8 @@ use Rattle.pm_topology.specs.UnitMap.{units_in}
 use Rattle.pm_topology.specs.Units.{has_in, units_of}
 use Rattle.pm_record.proofs.Below.{ChipLaws}
 use Rattle.pm_apply.specs.declared.turns.Turn.TheVariants.{PowerOff}
-use Rattle.pm_record.specs.Record.{is_place, IsRecordOf, Kept, kept_value, after_answer}
+use Rattle.pm_state.specs.Members.{is_place}
+use Rattle.pm_record.specs.Record.{IsRecordOf, Kept, kept_value, after_answer}
 use Rattle.pm_record.specs.Kinds.{is_power}
 use Rattle.pm_apply.specs.Plan.{due, done_as, is_used}
 use Rattle.pm_apply.specs.Order.{FailedOn}
@@ -29,6 +30,7 @@ use Rattle.pm_apply.proofs.OrdersUnits.{is_listed, IsPowerAt, parent_of_power, p
 use Rattle.pm_apply.proofs.OrdersDue.{lowers, stays_used}
 use Rattle.pm_apply.proofs.OrdersFailed.{fails_before, failed_before, failed_last}
 use Rattle.pm_apply.proofs.OrdersApply.{AllRaised, Lags, lags_before}
+use Rattle.pm_apply.proofs.UsedLemmas.{is_place_of}
 
 -- the places below this one, the highest first
 abbrev pub downs : ℕ → List ℕ
@@ -48,10 +50,6 @@ lower_before t front more v p f = record { node = f.node; failed = failed_before
 above_more : (powers : List PowerDef) (v w x : ℕ) → power_parent powers v ≡ Some w → IsAtOrAbove powers v x → IsAtOrAbove powers w x
 above_more powers v w _ parent at_it = higher v w parent at_it
 above_more powers v w _ parent (higher x u is up) = higher x u is (above_more powers v w u parent up)
-
-is_place_of : (w : ℕ) (o : Option ℕ) → is_place w o ≡ true → o ≡ Some w
-is_place_of w None is = cc
-is_place_of w (Some v) is = ap Some (eqb-true v w is)
 
 -- a node directly below a power node that needs power by the record
 record IsUser (t : Topology) (kept : Kept) (w : ℕ) : Type 0 where

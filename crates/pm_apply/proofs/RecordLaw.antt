@@ -24,7 +24,7 @@ use Rattle.pm_apply.specs.Plan.{plan, due, turns_of, power_places, pulse_turn, w
 use Rattle.pm_apply.specs.Part.{orders_of}
 use Rattle.pm_apply.proofs.PlanLemmas.{Along, along_plan, plan-recorded}
 use Rattle.pm_apply.proofs.PlanLeads.{Leads, leads_none, leads_turn}
-use Rattle.pm_record.proofs.RecordLemmas.{supply_in-after_answer, supply_in-marked, units_in-after_answer, units_in-marked, has_cell_of, kept_by, kept_stays, kept_value-marked}
+use Rattle.pm_record.proofs.RecordLemmas.{units_in-after_answer, units_in-marked, has_cell_of, kept_by, kept_stays, kept_value-marked}
 use Rattle.pm_apply.proofs.RecordLemmas.{are_on, values_after-recorded}
 use Rattle.pm_record.proofs.KindsLemmas.{power_is_power}
 use Rattle.pm_apply.proofs.OrdersUnits.{is_listed, power_is_listed}
@@ -42,7 +42,6 @@ module _ (laws : ChipLaws) (t : Topology) (values : Unit → ℕ) (well : IsWell
   switch_keeps : (kept : Kept) (c : Command) (ok : Bool) → IsRecordOf t kept → is_listed t c.unit ≡ true → c.value ≤ 1 → IsRecordOf t (after_answer c ok kept)
   switch_keeps kept c ok record_of has small = record {
     units = units_in-after_answer laws c ok kept ∙ record_of.units;
-    supplies = λ x has. supply_in-after_answer laws c ok kept x ∙ record_of.supplies x has;
     up_or_down = λ w p here.
         let before = record_of.up_or_down w p here in
         elim (kept_by laws c ok kept (Node p.node) (has_cell_in t kept c.unit record_of has)) [
@@ -55,7 +54,6 @@ module _ (laws : ChipLaws) (t : Topology) (values : Unit → ℕ) (well : IsWell
   settle_keeps : (kept : Kept) (c : Command) (ok : Bool) → IsRecordOf t kept → is_power t c.unit ≡ false → IsRecordOf t (after_answer c ok kept)
   settle_keeps kept c ok record_of other = record {
     units = units_in-after_answer laws c ok kept ∙ record_of.units;
-    supplies = λ x has. supply_in-after_answer laws c ok kept x ∙ record_of.supplies x has;
     up_or_down = λ w p here.
         let before = record_of.up_or_down w p here in
         let same = kept_stays laws c ok kept (Node p.node) (λ is. both_ways (is_power t c.unit) other (ap (is_power t) is ∙ power_is_power laws t well w p here)) in
@@ -94,7 +92,6 @@ module _ (laws : ChipLaws) (t : Topology) (values : Unit → ℕ) (well : IsWell
 pub marked_record : ChipLaws → (t : Topology) (values : Unit → ℕ) (kept : Kept) → IsRecordOf t kept → IsRecordOf t (marked values kept)
 marked_record laws t values kept record_of = record {
   units = units_in-marked laws values kept ∙ record_of.units;
-  supplies = λ x has. supply_in-marked laws values kept x ∙ record_of.supplies x has;
   up_or_down = λ w p here. let same = kept_value-marked laws values kept (Node p.node) in let up = record_of.up_or_down w p here in omega arith;
 }
 

@@ -8,20 +8,15 @@ use Rattle.pm_topology.specs.Units.{same_unit}
 use Rattle.pm_device.specs.Act.{value_by, values_after}
 use Rattle.pm_device.specs.Chains.{values_after-same}
 use Rattle.pm_core.specs.declared.outbox.Done.{Done}
-use Rattle.pm_record.specs.Record.{Kept, after_answer, kept_value, supply_in}
+use Rattle.pm_record.specs.Record.{Kept, after_answer, kept_value}
 use Rattle.pm_record.proofs.Below.{ChipLaws}
-use Rattle.pm_record.proofs.RecordLemmas.{has_cell_of, kept_after, supply_in-after_answer, units_in-after_answer}
+use Rattle.pm_record.proofs.RecordLemmas.{has_cell_of, kept_after, units_in-after_answer}
 use Rattle.pm_apply.specs.Part.{order_of, orders_of}
 
 -- the record once these commands were done
 abbrev pub recorded : Kept → List Done → Kept
 recorded kept [] = kept
 recorded kept (d ∷ done) = recorded (after_answer d.command d.ok kept) done
-
-pub supply_in-recorded : ChipLaws → (done : List Done) (kept : Kept) (x : Unit) → supply_in (recorded kept done) x ≡ supply_in kept x
-supply_in-recorded laws [] kept x = refl
-supply_in-recorded laws (d ∷ done) kept x =
-    supply_in-recorded laws done (after_answer d.command d.ok kept) x ∙ supply_in-after_answer laws d.command d.ok kept x
 
 -- each of these commands is on one of these units
 abbrev pub are_on : List Unit → List Done → Bool

@@ -25,7 +25,7 @@ use Rattle.pm_apply.specs.declared.turns.Turn.TheVariants.{PowerOn, Apply, Power
 use Rattle.pm_apply.specs.Carried.{KeepsRest, Takes}
 use Rattle.pm_apply.specs.Left.{HaveNone, IsFollowed}
 use Rattle.pm_apply.specs.Plan.{Carried, answers_of, command, due, is_fed, is_used, plan, power_off, power_on, power_places, turns_of, where_due, with_pulse}
-use Rattle.pm_record.specs.Record.{Kept, kept_value, lags_in, supply_in}
+use Rattle.pm_record.specs.Record.{Kept, kept_value, lags_in}
 use Rattle.pm_apply.specs.Room.{most, most_of}
 use Rattle.pm_record.specs.Marks.{LagsNotAt, NoPowerLags}
 use Rattle.pm_apply.specs.Visits.{IsIdle}
@@ -33,7 +33,7 @@ use Rattle.pm_record.proofs.Below.{ChipLaws}
 use Rattle.pm_apply.proofs.IdleLemmas.{idle_none, no_fall_held, no_rise_held}
 use Rattle.pm_apply.proofs.OrdersUnits.{power_is_listed}
 use Rattle.pm_apply.proofs.PlanLemmas.{plan-recorded}
-use Rattle.pm_apply.proofs.RecordLemmas.{recorded, supply_in-recorded}
+use Rattle.pm_apply.proofs.RecordLemmas.{recorded}
 use Rattle.pm_apply.proofs.TakesLemmas.{KeepsRest-trans, Takes-all, Takes-fits, Takes-next, Takes-none, Takes-refl, Takes-trans}
 use Rattle.pm_apply.proofs.TurnsLemmas.{lowers, raises, settles}
 use Rattle.pm_record.proofs.EntryLemmas.{kept_at}
@@ -81,11 +81,6 @@ module _ {D : Type 0} (Does : Act → D → D → Type 0) (laws : ChipLaws) (t :
   lags_then x =
       ap (λ kept. lags_in kept x) is_recorded ∙ lags_in-recorded laws (plan t values turns kept (answers_of takes.done)).done kept x
 
-  -- and so do the supplies
-  supplies_then : (x : Unit) → supply_in after x ≡ supply_in kept x
-  supplies_then x =
-      ap (λ kept. supply_in kept x) is_recorded ∙ supply_in-recorded laws (plan t values turns kept (answers_of takes.done)).done kept x
-
   -- it is followed as before
   pub followed_then : Each (IsPulseOf pulse) turns → IsFollowed t values pulse kept → IsFollowed t values pulse after
   followed_then each followed =
@@ -95,7 +90,6 @@ module _ {D : Type 0} (Does : Act → D → D → Type 0) (laws : ChipLaws) (t :
       in
       record {
         units = opened.are;
-        supplies = λ x has. supplies_then x ∙ followed.supplies x has;
         ready = opened.ready;
       }
 

@@ -9,7 +9,7 @@ use Rattle.pm_topology.specs.Units.{units_of}
 use Rattle.pm_core.specs.declared.outbox.Done.{Done}
 use Rattle.pm_apply.specs.declared.carrying.Carrying.{Carrying}
 use Rattle.pm_apply.specs.declared.turns.Turn.{Turn}
-use Rattle.pm_record.specs.Record.{after_answer, HasSupplies, Kept}
+use Rattle.pm_record.specs.Record.{after_answer, Kept}
 use Rattle.pm_apply.specs.Plan.{done_as, due, unit_turns, with_pulse}
 use Rattle.pm_apply.specs.Visits.{IsReady}
 
@@ -51,8 +51,7 @@ pub record Answers (t : Topology) (pulse : Option LineId) (command : Command) (o
   pub kept : kept_after ≡ after_answer command ok kept_before
   pub done : done_after ≡ done_before ++ done_as command kept_before ok ∷ []
 
--- a record of the units of the chip with their supplies, in which each that isn't marked has the book's value
+-- a record of the units of the chip, in which each that isn't marked has the book's value
 pub record IsFollowed (t : Topology) (values : Unit → ℕ) (pulse : Option LineId) (kept : Kept) : Type 0 where
   pub units : units_in kept ≡ units_of t
-  pub supplies : HasSupplies t kept
   pub ready : IsReady values pulse kept

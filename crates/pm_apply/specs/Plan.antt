@@ -9,11 +9,12 @@ use Rattle.pm_base.specs.declared.names.Command.{Command}
 use Rattle.pm_topology.specs.declared.topology.Topology.{Topology}
 use Rattle.pm_topology.specs.declared.topology.PowerDef.{PowerDef}
 use Rattle.pm_topology.specs.Units.{needs_power, parent_of_unit, same_unit}
+use Rattle.pm_state.specs.Members.{is_place}
 use Rattle.pm_core.specs.declared.outbox.Done.{Done}
 use Rattle.pm_topology.specs.Units.{units_of}
 use Rattle.pm_apply.specs.declared.turns.Turn.{Turn}
 use Rattle.pm_apply.specs.declared.turns.Turn.TheVariants.{PowerOn, Pulse, Apply, PowerOff}
-use Rattle.pm_record.specs.Record.{Kept, is_place, kept_value, after_answer}
+use Rattle.pm_record.specs.Record.{Kept, kept_value, after_answer}
 use Rattle.pm_record.specs.Kinds.{is_power}
 
 -- ---- the order

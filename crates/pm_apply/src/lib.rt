@@ -9,6 +9,7 @@ mod laws;
 mod powers;
 mod taking;
 mod turns;
+mod uses;
 mod wanted;
 
 pub use carrying::Carrying;

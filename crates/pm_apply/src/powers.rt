@@ -1,18 +1,20 @@
 //! Power nodes that go up or down, by their places in the record.
 
-ghost use Rattle.std.specs.Prelude.{◌≡◌, ℕ, ◌<◌, ◌==◌, ◌&&◌, not, IfNone, IfSome, None, length, slice_get, Some};
+ghost use Rattle.std.specs.Prelude.{◌≡◌, ◌==◌, ◌&&◌, not, IfNone, IfSome, None, slice_get, Some};
+ghost use Rattle.pm_base.specs.declared.names.Unit.TheVariants.{Node};
 ghost use Rattle.pm_topology.specs.UnitMap.{units_in};
 ghost use Rattle.pm_topology.specs.Units.{units_of};
 ghost use Rattle.pm_state.specs.Values.{value};
-ghost use Rattle.pm_record.specs.Record.{HasSupplies};
+ghost use Rattle.pm_record.specs.Marks.{StandsElsewhere};
 ghost use Rattle.pm_apply.specs.Left.{IsFollowed};
 ghost use Rattle.pm_apply.specs.Plan.{due, is_fed, is_used};
 
-use crate::turns::{Turn, is_fed, is_used, power_at};
+use crate::turns::{Turn, is_fed, power_at};
+use crate::uses::is_used;
 use pm_base::{Command, LineId, Unit};
 use pm_core::Book;
 use pm_record::{Kept, KeptValue};
-use pm_topology::{kinds_are_exact, unit_maps, units_stand_in_order};
+use pm_topology::{PowerDef, kinds_are_exact, unit_maps, units_stand_in_order};
 
 /// The place in the record of the power node at a place that goes up, and its command. Nothing comes out if it has
 /// no command: it isn't marked, or isn't down in the record, or stays so.
@@ -85,22 +87,23 @@ pub(crate) fn lowered(
     let Some(at) = kept.lagging(unit, 1) else {
         return None;
     };
-    if falls(at, unit, place, book, kept) {
+    if falls(at, &power, place, book, kept) {
         Some((at, Command { unit, value: 0 }))
     } else {
         None
     }
 }
 
-/// Whether a unit, which stands at this place of the record, is down in the book, and nothing directly below the power
-/// node at a place needs power by the record.
+/// Whether the power node at a place, which stands at this place of the record, is down in the book, and nothing directly
+/// below it needs power by the record.
 #[inline(always)]
-fn falls(at: usize, unit: Unit, place: usize, book: &Book, kept: &Kept) -> bool
-    requires at { slice_get (units_of book.now.fixed.topology) at ≡ Some unit }
-    requires there { place < length book.now.fixed.topology.powers }
+fn falls(at: usize, power: &PowerDef, place: usize, book: &Book, kept: &Kept) -> bool
+    requires at { slice_get (units_of book.now.fixed.topology) at ≡ Some (Node power.now.node) }
+    requires there { slice_get book.now.fixed.topology.powers place ≡ Some power.now }
     requires units { units_in kept.now ≡ units_of book.now.fixed.topology }
-    requires supplies { HasSupplies book.now.fixed.topology kept.now }
-    ensures { result ≡ ((value unit book.now == 0) && not (is_used book.now.fixed.topology kept.now place)) }
+    requires stands { StandsElsewhere (λ u. value u book.now) kept.now }
+    ensures { result ≡ ((value (Node power.now.node) book.now == 0)
+        && not (is_used book.now.fixed.topology kept.now place)) }
 {
-    book.value_at(at) == 0 && !is_used(place, book, kept)
+    book.value_at(at) == 0 && !is_used(power, place, book, kept)
 }

@@ -13,9 +13,9 @@ ghost use Rattle.pm_core.specs.Outbox.{HasRoomFor};
 ghost use Rattle.pm_apply.specs.Carried.{KeepsRest, Takes};
 ghost use Rattle.pm_apply.specs.Left.{IsFollowed};
 ghost use Rattle.pm_apply.specs.Plan.{due, power_places, pulse_turn, turns_of, with_pulse};
-ghost use Rattle.pm_record.specs.Record.{IsRecordOf, HasSupplies};
+ghost use Rattle.pm_record.specs.Record.{IsRecordOf};
 ghost use Rattle.pm_apply.specs.Room.{most, most_of};
-ghost use Rattle.pm_record.specs.Marks.{NoPowerLags};
+ghost use Rattle.pm_record.specs.Marks.{NoPowerLags, StandsElsewhere};
 ghost use Rattle.pm_apply.specs.Visits.{IsReady};
 
 use crate::powers::{lowered, raised};
@@ -183,7 +183,7 @@ fn take_unit<D: Device>(dev: &mut D, kept: &mut Kept, book: &Book, out: &mut Out
 /// The pulse of a unit, if it is the line that is pulsed.
 fn take_pulse<D: Device>(dev: &mut D, kept: &mut Kept, book: &Book, out: &mut Outbox, unit: Unit)
     requires units { units_in kept.old ≡ units_of book.now.fixed.topology }
-    requires supplies { HasSupplies book.now.fixed.topology kept.old }
+    requires stands { StandsElsewhere (λ u. value u book.now) kept.old }
     requires room { length out.old.done.items + most_of book.now.fixed.topology (λ u. value u book.now)
         (pulse_turn out.old.pulse unit) ≤ out.old.done.room }
     ensures takes { Takes D.Does book.now.fixed.topology (λ u. value u book.now) (pulse_turn out.old.pulse unit)
@@ -205,7 +205,6 @@ fn take_value<D: Device>(
     unit: Unit,
 )
     requires units { units_in kept.old ≡ units_of book.now.fixed.topology }
-    requires supplies { HasSupplies book.now.fixed.topology kept.old }
     requires there { slice_get (units_in kept.old) place ≡ Some unit }
     requires room { length out.old.done.items < out.old.done.room }
     ensures takes { Takes D.Does book.now.fixed.topology (λ u. value u book.now) (Turn.Apply unit ∷ [])
@@ -221,7 +220,7 @@ fn take_value<D: Device>(
 /// Takes a turn: its command is issued, if it has one.
 fn take_turn<D: Device>(dev: &mut D, kept: &mut Kept, book: &Book, out: &mut Outbox, turn: Turn)
     requires units { units_in kept.old ≡ units_of book.now.fixed.topology }
-    requires supplies { HasSupplies book.now.fixed.topology kept.old }
+    requires stands { StandsElsewhere (λ u. value u book.now) kept.old }
     requires room { length out.old.done.items + most book.now.fixed.topology (λ u. value u book.now) turn
         ≤ out.old.done.room }
     ensures takes { Takes D.Does book.now.fixed.topology (λ u. value u book.now) (turn ∷ []) kept.old kept.new

@@ -1,6 +1,6 @@
 //! The turns of a step: each may issue one command.
 
-ghost use Rattle.std.specs.Prelude.{◌≡◌, ℕ, ◌<◌, ◌≤◌, ◌==◌, ◌&&◌, ◌||◌, false, not, length, option_to_list, slice_get, unwrap_or, Some};
+ghost use Rattle.std.specs.Prelude.{◌≡◌, ℕ, ◌<◌, ◌≤◌, ◌==◌, ◌&&◌, ◌||◌, false, not, length, option_to_list, slice_get, Some};
 ghost use Rattle.pm_base.specs.declared.names.Unit.TheVariants.{Node};
 ghost use Rattle.pm_topology.specs.WellFormed.{IsWellFormed};
 ghost use Rattle.pm_topology.specs.UnitMap.{units_in};
@@ -9,13 +9,15 @@ ghost use Rattle.pm_topology.specs.Units.{kind_needs_power, needs_power, parent_
 ghost use Rattle.pm_state.specs.Fed.{IsFed};
 ghost use Rattle.pm_state.specs.Values.{value};
 ghost use Rattle.pm_record.specs.Kinds.{is_power, is_power_kind};
+ghost use Rattle.pm_record.specs.Marks.{StandsElsewhere};
 ghost use Rattle.pm_apply.specs.Plan.{due, is_fed, is_used, power_off, power_value, power_on, apply, pulse, pulse_before, pulse_turn, unit_turns, where_due};
-ghost use Rattle.pm_record.specs.Record.{HasSupplies, kept_value};
+ghost use Rattle.pm_record.specs.Record.{kept_value};
 ghost use Rattle.pm_apply.specs.Visits.{IsIdleAt, power_lags};
 
+use crate::uses::is_used;
 use pm_base::{Command, LineId, Unit};
 use pm_core::Book;
-use pm_record::{Kept, KeptValue, is_power_kind, powers_at};
+use pm_record::{Kept, KeptValue, is_power_kind};
 use pm_topology::{
     Kind, PowerDef, Topology, kind_needs_power, kinds_are_exact, same_unit, unit_maps,
     units_stand_in_order,
@@ -170,7 +172,7 @@ pub(crate) fn pulse_turn(pulse: Option<LineId>, unit: Unit) -> Option<Turn>
 /// The command of a turn, if there is one: from the book's values and the record.
 pub(crate) fn due(turn: Turn, book: &Book, kept: &Kept) -> Option<Command>
     requires units { units_in kept.now ≡ units_of book.now.fixed.topology }
-    requires supplies { HasSupplies book.now.fixed.topology kept.now }
+    requires stands { StandsElsewhere (λ u. value u book.now) kept.now }
     ensures { result ≡ due book.now.fixed.topology (λ u. value u book.now) kept.now turn }
 {
     match turn {
@@ -259,10 +261,9 @@ fn apply(unit: Unit, book: &Book, kept: &Kept) -> Option<Command>
     )
 }
 
-/// The command of the turn of the unit at a place of the record, by its entry and its supply there.
+/// The command of the turn of the unit at a place of the record, by its entry there.
 pub(crate) fn apply_at(place: usize, unit: Unit, book: &Book, kept: &Kept) -> Option<Command>
     requires units { units_in kept.now ≡ units_of book.now.fixed.topology }
-    requires supplies { HasSupplies book.now.fixed.topology kept.now }
     requires there { slice_get (units_in kept.now) place ≡ Some unit }
     ensures { result ≡ apply book.now.fixed.topology (λ u. value u book.now) kept.now unit }
 {
@@ -275,29 +276,22 @@ pub(crate) fn apply_at(place: usize, unit: Unit, book: &Book, kept: &Kept) -> Op
     };
     let value = book.value_at(place);
     where_due(
-        takes_at(place, unit, value, entry, book.topology(), kept),
+        takes_at(place, unit, entry.value, value, book.topology(), kept),
         Command { unit, value },
     )
 }
 
-/// Whether the unit at a place, of which this is kept, has another value there, is no power node, and needs no power at its
-/// new value or isn't below a power node that is down in the record.
-fn takes_at(
-    place: usize,
-    unit: Unit,
-    value: u32,
-    entry: KeptValue,
-    t: &Topology,
-    kept: &Kept,
-) -> bool
+/// Whether the unit at a place of the record, which has this value there, is no power node, and its new value is another
+/// one that doesn't need power, or the power node above isn't down in the record.
+fn takes_at(place: usize, unit: Unit, from: u32, value: u32, t: &Topology, kept: &Kept) -> bool
     requires { IsWellFormed t.now }
-    ensures { result ≡ (not (entry.value == value) && (not (is_power t.now unit)
-        && (not (unwrap_or (slice_get entry.supply.powered value) false)
-        || is_fed t.now kept.now entry.supply.parent))) }
+    ensures { result ≡ (not (is_power t.now unit) && (not (from == value)
+        && (not (needs_power t.now unit value) || is_fed t.now kept.now (parent_of_unit t.now unit)))) }
 {
-    entry.value != value
-        && !kept.is_power(place, unit, t)
-        && (!powers_at(entry.supply, value) || is_fed(t, kept, entry.supply.parent))
+    match unit {
+        Unit::Node(node) => takes_by(kept.kind(place, node, t), from, value, t, kept),
+        Unit::Line(_) => takes_by(Kind::Unknown, from, value, t, kept),
+    }
 }
 
 /// Whether a unit is no power node, the record has another value for it, and the value doesn't need
@@ -306,20 +300,22 @@ fn takes(unit: Unit, value: u32, t: &Topology, kept: &Kept) -> bool
     ensures { result ≡ (not (is_power t.now unit) && (not (kept_value kept.now unit == value)
         && (not (needs_power t.now unit value) || is_fed t.now kept.now (parent_of_unit t.now unit)))) }
 {
+    let from = kept.value(unit);
     match unit {
-        Unit::Node(node) => takes_by(t.kind(node), unit, value, t, kept),
-        Unit::Line(_) => takes_by(Kind::Unknown, unit, value, t, kept),
+        Unit::Node(node) => takes_by(t.kind(node), from, value, t, kept),
+        Unit::Line(_) => takes_by(Kind::Unknown, from, value, t, kept),
     }
 }
 
-/// Whether a unit of this kind is no power node, the record has another value for it, and the value doesn't need power
-/// or the power node above isn't down in the record. A reset line is of none of the nodes' kinds.
-fn takes_by(kind: Kind, unit: Unit, value: u32, t: &Topology, kept: &Kept) -> bool
-    ensures { result ≡ (not (is_power_kind kind) && (not (kept_value kept.now unit == value)
+/// Whether a unit of this kind, which has the first value in the record, is no power node, and its new value is another
+/// one that doesn't need power, or the power node above isn't down in the record. A reset line is of none of the nodes'
+/// kinds.
+fn takes_by(kind: Kind, from: u32, value: u32, t: &Topology, kept: &Kept) -> bool
+    ensures { result ≡ (not (is_power_kind kind) && (not (from == value)
         && (not (kind_needs_power t.now kind value) || is_fed t.now kept.now (parent_at t.now kind)))) }
 {
     !is_power_kind(kind)
-        && kept.value(unit) != value
+        && from != value
         && (!kind_needs_power(t, kind, value) || is_fed(t, kept, t.parent_by(kind)))
 }
 
@@ -329,7 +325,7 @@ fn takes_by(kind: Kind, unit: Unit, value: u32, t: &Topology, kept: &Kept) -> bo
 /// nothing directly below needs it by the record.
 fn power_off(place: usize, book: &Book, kept: &Kept) -> Option<Command>
     requires units { units_in kept.now ≡ units_of book.now.fixed.topology }
-    requires supplies { HasSupplies book.now.fixed.topology kept.now }
+    requires stands { StandsElsewhere (λ u. value u book.now) kept.now }
     ensures { result ≡ power_off book.now.fixed.topology (λ u. value u book.now) kept.now place
         (slice_get book.now.fixed.topology.powers place) }
 {
@@ -346,7 +342,7 @@ fn power_off(place: usize, book: &Book, kept: &Kept) -> Option<Command>
 fn goes_down(power: &PowerDef, place: usize, book: &Book, kept: &Kept) -> bool
     requires there { slice_get book.now.fixed.topology.powers place ≡ Some power.now }
     requires units { units_in kept.now ≡ units_of book.now.fixed.topology }
-    requires supplies { HasSupplies book.now.fixed.topology kept.now }
+    requires stands { StandsElsewhere (λ u. value u book.now) kept.now }
     ensures { result ≡ ((value (Node power.now.node) book.now == 0) && ((kept_value kept.now (Node power.now.node) == 1)
         && not (is_used book.now.fixed.topology kept.now place))) }
 {
@@ -354,22 +350,7 @@ fn goes_down(power: &PowerDef, place: usize, book: &Book, kept: &Kept) -> bool
     if book.value(unit) != 0 || kept.value(unit) != 1 {
         return false;
     }
-    !is_used(place, book, kept)
-}
-
-/// Whether some unit directly below the power node at a place needs power by the record: whether their number, which is
-/// kept, isn't 0.
-pub(crate) fn is_used(place: usize, book: &Book, kept: &Kept) -> bool
-    requires there { place < length book.now.fixed.topology.powers }
-    requires units { units_in kept.now ≡ units_of book.now.fixed.topology }
-    requires supplies { HasSupplies book.now.fixed.topology kept.now }
-    ensures { result ≡ is_used book.now.fixed.topology kept.now place }
-{
-    units_stand_in_order();
-    kinds_are_exact();
-    unit_maps::<KeptValue>();
-    book.stays_sound();
-    kept.is_used(place)
+    !is_used(power, place, book, kept)
 }
 
 // ---- power nodes

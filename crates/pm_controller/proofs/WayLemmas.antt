@@ -151,7 +151,6 @@ module _ (book : State) (pulse : Option LineId) where
       let now = left.way_open NoDevice t values pulse way.begun [] tt laws (units_of t) c kept done tt (as_way kept done c way) first in
       record {
         units = now.are;
-        supplies = λ x has. left.way_supplies NoDevice t values pulse way.begun [] tt laws c kept done tt (as_way kept done c way) x ∙ way.followed.supplies x has;
         ready = now.ready;
       }
 

@@ -8,4 +8,3 @@ pub mod MarksLemmas
 pub mod PlacesLemmas
 pub mod RecordLemmas
 pub mod UnmarkedLemmas
-pub mod UsesLemmas

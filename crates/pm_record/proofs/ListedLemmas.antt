@@ -6,14 +6,13 @@ use Rattle.std.proofs.lemmas.List.{length-map}
 use Rattle.std.proofs.lemmas.Option.{same_Some, slice_get-map, slice_get_cases, slice_get_within, get_or_from_slice_get}
 use Rattle.pm_base.proofs.Searches.{position-first}
 use Rattle.pm_base.specs.declared.names.Unit.{Unit}
-use Rattle.pm_topology.specs.declared.topology.Topology.{Topology}
-use Rattle.pm_topology.specs.UnitMap.{TablePlaceLaws, all_at, mapped, place_of, set_entry, units_in, with_value, with_value_at}
+use Rattle.pm_topology.specs.UnitMap.{TablePlaceLaws, all_at, place_of, set_entry, units_in, with_value, with_value_at}
 use Rattle.pm_topology.specs.Units.{UnitLaws, rises, same_unit}
 use Rattle.pm_topology.proofs.UnitMapLaw.{set_nowhere}
 use Rattle.pm_record.proofs.Below.{ChipLaws}
 use Rattle.pm_record.specs.declared.kept.KeptValue.{KeptValue}
 use Rattle.pm_record.specs.Places.{has_place}
-use Rattle.pm_record.specs.Record.{Kept, idle, keep, kept_of, lags_in, mark, marked, supplied}
+use Rattle.pm_record.specs.Record.{Kept, idle, keep, kept_of, lags_in, mark, marked}
 use Rattle.pm_record.specs.Marks.{LagsNotAt, LagsWithin, Marks, Remakes, StandsElsewhere, with_mark}
 use Rattle.pm_record.proofs.MarkingLemmas.{marks_one}
 use Rattle.pm_record.proofs.MarksLemmas.{mark_stays}
@@ -46,12 +45,12 @@ lags_not kept places k lags none within =
     ]
 
 -- at first nothing lags
-pub none_listed : (t : Topology) (units : List Unit) → LagsWithin [] (mapped (supplied t) (all_at idle units))
-none_listed t [] k e here lag = cc
-none_listed t (u ∷ units) zero e here lag =
-    let same : (u, supplied t u idle) ≡ e = cc in
+pub none_listed : (units : List Unit) → LagsWithin [] (all_at idle units)
+none_listed [] k e here lag = cc
+none_listed (u ∷ units) zero e here lag =
+    let same : (u, idle) ≡ e = cc in
     absurd (both_ways e.1.lags (ap (λ (e : Unit × KeptValue). e.1.lags) (sym same)) lag)
-none_listed t (u ∷ units) (suc k) e here lag = none_listed t units k e here lag
+none_listed (u ∷ units) (suc k) e here lag = none_listed units k e here lag
 
 -- ---- a unit is marked
 

@@ -12,9 +12,9 @@ use Rattle.pm_topology.specs.UnitMap.{remade, set_entry, units_in, value_of, wit
 use Rattle.pm_topology.specs.Units.{has_in, has_unit, rises, same_unit, units_of}
 use Rattle.pm_record.proofs.Below.{ChipLaws}
 use Rattle.pm_record.specs.declared.kept.KeptValue.{KeptValue}
-use Rattle.pm_record.specs.Record.{Kept, IsRecordOf, idle, kept_of, kept_value, lags_in, mark, marked, supply_in}
+use Rattle.pm_record.specs.Record.{Kept, IsRecordOf, idle, kept_of, kept_value, lags_in, mark, marked}
 use Rattle.pm_record.specs.Marks.{Marks, with_mark}
-use Rattle.pm_record.proofs.RecordLemmas.{kept_value-marked, supply_in-marked, units_in-marked}
+use Rattle.pm_record.proofs.RecordLemmas.{kept_value-marked, units_in-marked}
 use Rattle.pm_record.proofs.EntryLemmas.{kept_at}
 
 -- ---- one unit
@@ -80,11 +80,6 @@ module _ (laws : ChipLaws) where
   same_values units before after marks x =
       sym (kept_value-marked laws (λ u. 0) after x) ∙ ap (λ kept. kept_value kept x) (marks.alike (λ u. 0)) ∙ kept_value-marked laws (λ u. 0) before x
 
-  -- and their supplies
-  pub same_supplies : (units : List Unit) (before after : Kept) → Marks units before after → (x : Unit) → supply_in after x ≡ supply_in before x
-  same_supplies units before after marks x =
-      sym (supply_in-marked laws (λ u. 0) after x) ∙ ap (λ kept. supply_in kept x) (marks.alike (λ u. 0)) ∙ supply_in-marked laws (λ u. 0) before x
-
   pub marks_trans : (first second : List Unit) (before middle after : Kept) → Marks first before middle → Marks second middle after → Marks (first ++ second) before after
   marks_trans first second before middle after one two = record {
     alike = λ values. two.alike values ∙ one.alike values;
@@ -108,7 +103,6 @@ module _ (laws : ChipLaws) where
   pub record_marked : (t : Topology) (units : List Unit) (before after : Kept) → IsRecordOf t before → Marks units before after → IsRecordOf t after
   record_marked t units before after record_of marks = record {
     units = same_units units before after marks ∙ record_of.units;
-    supplies = λ x has. same_supplies units before after marks x ∙ record_of.supplies x has;
     up_or_down = λ w p here.
         let same = same_values units before after marks (Node p.node) in
         let up = record_of.up_or_down w p here in

@@ -7,46 +7,33 @@ use Rattle.pm_base.specs.declared.names.Unit.{Unit}
 use Rattle.pm_base.specs.declared.names.Unit.TheVariants.{Node}
 use Rattle.pm_topology.specs.declared.topology.Topology.{Topology}
 use Rattle.pm_topology.specs.Units.{has_in, units_of}
-use Rattle.pm_topology.specs.UnitMap.{all_at, units_in, value_of}
+use Rattle.pm_topology.specs.UnitMap.{units_in, value_of}
 use Rattle.pm_record.proofs.Below.{ChipLaws}
 use Rattle.pm_record.specs.declared.kept.KeptValue.{KeptValue}
-use Rattle.pm_record.specs.Record.{Kept, IsRecordOf, IsAtZero, at_zero, idle, kept_of, kept_value, lags_in, mark, marked, supplied}
+use Rattle.pm_record.specs.Record.{Kept, IsRecordOf, IsAtZero, at_zero, idle, kept_of, kept_value, lags_in, mark, marked}
 use Rattle.pm_record.specs.Marks.{StandsAt}
 
 -- ---- at first
 
-first_of : ChipLaws → (t : Topology) (unit : Unit) → kept_of (at_zero t) unit ≡ cond (has_in (units_of t) unit) (supplied t unit idle) idle
-first_of laws t unit =
-    ap (λ (found : Option KeptValue). unwrap_or found idle)
-    (laws.table.made (supplied t) (all_at idle (units_of t)) unit ∙ ap (option_map (supplied t unit)) (laws.table.all idle (units_of t) unit))
-    ∙ at (has_in (units_of t) unit)
+first_of : ChipLaws → (t : Topology) (unit : Unit) → kept_of (at_zero t) unit ≡ idle
+first_of laws t unit = ap (λ (found : Option KeptValue). unwrap_or found idle) (laws.table.all idle (units_of t) unit) ∙ at (has_in (units_of t) unit)
   where
-    at : (has : Bool) → unwrap_or (option_map (supplied t unit) (cond has (Some idle) None)) idle ≡ cond has (supplied t unit idle) idle
+    at : (has : Bool) → unwrap_or (cond has (Some idle) None) idle ≡ idle
     at true = refl
     at false = refl
 
 pub first_values : ChipLaws → (t : Topology) (unit : Unit) → kept_value (at_zero t) unit ≡ 0
-first_values laws t unit = ap (λ (kept : KeptValue). kept.value) (first_of laws t unit) ∙ at (has_in (units_of t) unit)
-  where
-    at : (has : Bool) → (cond has (supplied t unit idle) idle).value ≡ 0
-    at true = refl
-    at false = refl
-
-first_marks : ChipLaws → (t : Topology) (unit : Unit) → lags_in (at_zero t) unit ≡ false
-first_marks laws t unit = ap (λ (kept : KeptValue). kept.lags) (first_of laws t unit) ∙ at (has_in (units_of t) unit)
-  where
-    at : (has : Bool) → (cond has (supplied t unit idle) idle).lags ≡ false
-    at true = refl
-    at false = refl
+first_values laws t unit = ap (λ (kept : KeptValue). kept.value) (first_of laws t unit)
 
 pub first_is_at_zero : ChipLaws → (t : Topology) → IsAtZero (at_zero t)
-first_is_at_zero laws t = record { values = first_values laws t; marks = first_marks laws t }
+first_is_at_zero laws t = record {
+  values = first_values laws t;
+  marks = λ unit. ap (λ (kept : KeptValue). kept.lags) (first_of laws t unit);
+}
 
 pub first_is_record : ChipLaws → (t : Topology) → IsRecordOf t (at_zero t)
 first_is_record laws t = record {
-  units = laws.table.made_units (supplied t) (all_at idle (units_of t)) ∙ laws.table.all_units idle (units_of t);
-  supplies = λ unit has.
-      ap (λ (kept : KeptValue). kept.supply) (first_of laws t unit) ∙ ap (λ has. (cond has (supplied t unit idle) idle).supply) (laws.units.found t unit ∙ has);
+  units = laws.table.all_units idle (units_of t);
   up_or_down = λ w power here. let zero = first_values laws t (Node power.node) in omega arith;
 }
 

@@ -1,14 +1,14 @@
 -- The record after a unit took a value, and after some commands: the values of the device follow it.
-use Rattle.std.proofs.Common.{◌≡◌, ℕ, Bool, true, false, ◌&&◌, cond, if◌then◌else◌, Option, Some, None, List, [], ◌∷◌, refl, ap, sym, ◌∙◌, ◌⊎◌, inl, inr}
+use Rattle.std.proofs.Common.{◌≡◌, ℕ, Bool, true, false, ◌&&◌, cond, if◌then◌else◌, Option, Some, None, List, refl, ap, sym, ◌∙◌, ◌⊎◌, inl, inr}
 use Rattle.std.specs.Prelude.{is_some, unwrap_or}
 use Rattle.std.specs.Option.{option_map}
 use Rattle.pm_base.specs.declared.names.Unit.{Unit}
 use Rattle.pm_base.specs.declared.names.Command.{Command}
-use Rattle.pm_topology.specs.UnitMap.{units_in, value_of, with_value}
+use Rattle.pm_topology.specs.UnitMap.{units_in, value_of}
 use Rattle.pm_topology.specs.Units.{has_in, same_unit}
 use Rattle.pm_record.proofs.Below.{ChipLaws}
 use Rattle.pm_record.specs.declared.kept.KeptValue.{KeptValue}
-use Rattle.pm_record.specs.Record.{lags_in, Kept, idle, keep, kept_of, kept_value, mark, marked, supply_in, after_answer}
+use Rattle.pm_record.specs.Record.{lags_in, Kept, idle, keep, kept_of, kept_value, mark, marked, after_answer}
 
 -- ---- the device took a value for a unit
 
@@ -48,24 +48,6 @@ pub has_cell_of : (units : List Unit) (kept : Kept) (x : Unit)
     → units_in kept ≡ units → has_in units x ≡ true → has_in (units_in kept) x ≡ true
 has_cell_of units kept x is has = ap (λ units. has_in units x) is ∙ has
 
--- ---- the supplies of the record stay
-
-supply_at : (same has : Bool) (now : KeptValue) (before : Option KeptValue) → (same ≡ true → now.supply ≡ (unwrap_or before idle).supply)
-    → (unwrap_or (cond (same && has) (Some now) before) idle).supply ≡ (unwrap_or before idle).supply
-supply_at true true now before is = is refl
-supply_at true false now before is = refl
-supply_at false has now before is = refl
-
--- where a unit gets an entry with its own supply
-pub supply_in-set : ChipLaws → (u : Unit) (now : KeptValue) (kept : Kept) (x : Unit) → now.supply ≡ supply_in kept u → supply_in (with_value u now kept) x ≡ supply_in kept x
-supply_in-set laws u now kept x same =
-    ap (λ (found : Option KeptValue). (unwrap_or found idle).supply) (laws.table.set u now kept x)
-    ∙ supply_at (same_unit u x) (is_some (value_of kept u)) now (value_of kept x) (λ is. same ∙ ap (supply_in kept) (laws.units.same u x is))
-
-pub supply_in-after_answer : ChipLaws → (c : Command) (ok : Bool) (kept : Kept) (x : Unit) → supply_in (after_answer c ok kept) x ≡ supply_in kept x
-supply_in-after_answer laws c true kept x = supply_in-set laws c.unit (record (kept_of kept c.unit) { value = c.value }) kept x refl
-supply_in-after_answer laws c false kept x = refl
-
 -- ---- the device follows
 
 -- the value of a unit after a command with its answer: the value by the record after it
@@ -82,14 +64,6 @@ kept_value-marked laws values kept x =
     ap (λ (found : Option KeptValue). (unwrap_or found idle).value) (laws.table.made (mark values) kept x) ∙ at (value_of kept x)
   where
     at : (found : Option KeptValue) → (unwrap_or (option_map (mark values x) found) idle).value ≡ (unwrap_or found idle).value
-    at None = refl
-    at (Some kept) = refl
-
-pub supply_in-marked : ChipLaws → (values : Unit → ℕ) (kept : Kept) (x : Unit) → supply_in (marked values kept) x ≡ supply_in kept x
-supply_in-marked laws values kept x =
-    ap (λ (found : Option KeptValue). (unwrap_or found idle).supply) (laws.table.made (mark values) kept x) ∙ at (value_of kept x)
-  where
-    at : (found : Option KeptValue) → (unwrap_or (option_map (mark values x) found) idle).supply ≡ (unwrap_or found idle).supply
     at None = refl
     at (Some kept) = refl
 

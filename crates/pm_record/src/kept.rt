@@ -1,35 +1,33 @@
 //! The record: the value that a device last took for each unit, and which units lag.
 
-ghost use Rattle.std.specs.Prelude.{◌≡◌, ℕ, ◌<◌, ◌≤◌, ◌==◌, ◌&&◌, [], ◌∷◌, false, not, IfNone, IfOk, IfSome, count_by, length, slice_get, Some};
+ghost use Rattle.std.specs.Prelude.{◌≡◌, ℕ, ◌<◌, ◌≤◌, ◌==◌, ◌&&◌, [], ◌∷◌, false, IfNone, IfOk, IfSome, length, slice_get, Some};
 ghost use Rattle.pm_base.specs.declared.names.Unit.{Unit as Part};
 ghost use Rattle.pm_base.specs.declared.names.Unit.TheVariants.{Line};
-ghost use Rattle.pm_topology.specs.UnitMap.{units_in, values_in};
+ghost use Rattle.pm_topology.specs.Places.{kind_of};
+ghost use Rattle.pm_topology.specs.UnitMap.{units_in};
 ghost use Rattle.pm_topology.specs.WellFormed.{IsWellFormed};
 ghost use Rattle.pm_record.specs.Kinds.{is_power};
 ghost use Rattle.pm_record.specs.Marks.{LagsNotAt, Marks, NoPowerLags, StandsElsewhere, pulsed};
-ghost use Rattle.pm_record.specs.Record.{CountsUses, IsAtZero, IsRecordOf, after_answer, at_zero, kept_of, kept_value, lags_in, marked, uses_power};
+ghost use Rattle.pm_record.specs.Record.{IsAtZero, IsRecordOf, after_answer, at_zero, kept_of, kept_value, lags_in, marked};
 
 use crate::entries::{has_lagging, idle, keep, keep_at, kept_of};
 use crate::kinds::Kinds;
 use crate::laws::at_zero_is_a_record;
 use crate::marks::{Wanted, mark_all, set_mark};
 use crate::places::Places;
-use crate::supplies::{Supply, give_supplies};
-use crate::use_counts::UseCounts;
-use pm_base::{Command, LineId, NoMemory, Unit, with};
+use pm_base::{Command, LineId, NoMemory, NodeId, Unit, with};
 use pm_topology::{
-    Topology, UnitMap, kinds_are_exact, unit_map_places, unit_maps, units_stand_in_order,
+    Kind, Topology, UnitMap, kinds_are_exact, unit_map_places, unit_maps, units_stand_in_order,
 };
 use std::alloc::Global;
 use std::marker::Model;
 use std::mem::swap;
 
-/// The value that the device last took for a unit, whether that differs from the book's, and the supply of the unit.
+/// The value that the device last took for a unit, and whether that differs from the book's.
 #[derive(Clone, Copy, Debug, PartialEq, Eq)]
 pub struct KeptValue {
     pub value: u32,
     pub lags: bool,
-    pub supply: Supply,
 }
 
 /// The value that a device last took for each unit. Contracts see the list of the units.
@@ -40,9 +38,7 @@ pub struct Kept {
     marked: Places,
     /// Room for the places of those that stay so after a step.
     spare: Places,
-    /// How many units use each power node.
-    uses: UseCounts,
-    /// Which units are power nodes.
+    /// Of which kind the units are.
     kinds: Kinds,
 }
 
@@ -50,7 +46,6 @@ impl Model for Kept {
     ghost use Rattle.std.specs.Prelude.{List};
     ghost use Rattle.pm_base.specs.declared.names.Unit.{Unit};
     ghost use Rattle.pm_record.specs.declared.kept.KeptValue.{KeptValue};
-    ghost use Rattle.pm_record.specs.Record.{CountsUses};
     ghost use Rattle.pm_record.specs.Marks.{ListsMarks};
 
     ghost Value = { List (Unit × KeptValue) };
@@ -59,12 +54,11 @@ impl Model for Kept {
 
     ghost invariant = { λ kept. record {
       marks : ListsMarks kept.values kept.marked kept.spare;
-      uses : CountsUses kept.values kept.uses;
     } };
 }
 
 impl Kept {
-    /// The record of a device that took nothing yet: each unit of the chip stands at 0 with its supply, and none lags.
+    /// The record of a device that took nothing yet: each unit of the chip stands at 0, and none lags.
     ///
     /// # Errors
     ///
@@ -77,12 +71,11 @@ impl Kept {
         at_zero_is_a_record();
         let values = first_values(alloc, t)?;
         let parts = parts_of(alloc, &values, t);
-        let (values, (marked, spare, uses, kinds)) = with(values, parts)?;
+        let (values, (marked, spare, kinds)) = with(values, parts)?;
         Ok(Kept {
             values,
             marked,
             spare,
-            uses,
             kinds,
         })
     }
@@ -156,18 +149,18 @@ impl Kept {
             → is_power t.now e.0 ≡ false }
     {
         match self.values.entry(place) {
-            Some((unit, _)) => self.is_power(place, unit, t),
+            Some((unit, _)) => self.kinds.is_power(place, unit, t),
             None => false,
         }
     }
 
-    /// Whether the unit at a place, which is this one, is a power node of a chip.
+    /// The kind of a node of a chip, which is the unit at a place as a rule: it is searched for else.
     #[inline(always)]
-    pub fn is_power(&self, place: usize, unit: Unit, t: &Topology) -> bool
+    pub fn kind(&self, place: usize, node: NodeId, t: &Topology) -> Kind
         requires { IsWellFormed t.now }
-        ensures { result ≡ is_power t.now unit }
+        ensures { result ≡ kind_of t.now node }
     {
-        self.kinds.is_power(place, unit, t)
+        self.kinds.kind(place, node, t)
     }
 
     /// The place of a unit that lags and has this value in the record. Nothing comes out for one that doesn't lag, or has
@@ -197,15 +190,6 @@ impl Kept {
         ensures { result ≡ slice_get self.now place }
     {
         self.values.entry(place)
-    }
-
-    /// Whether some unit uses the power node at a place: it stands directly below it, and needs power at its kept value.
-    /// Their number is kept.
-    pub fn is_used(&self, place: usize) -> bool
-        requires { place < 64 }
-        ensures { result ≡ not (count_by (uses_power place) (values_in self.now) == 0) }
-    {
-        self.uses.has_some(place)
     }
 
     /// Whether the unit at a place lags, and true past the last one.
@@ -296,7 +280,7 @@ impl Kept {
         if !ok {
             return self.value(command.unit);
         }
-        keep(&mut self.values, &mut self.uses, command)
+        keep(&mut self.values, command)
     }
 
     /// Takes down what a device answered to a command on the unit at a place. The value before it comes out.
@@ -313,7 +297,7 @@ impl Kept {
         if !ok {
             return self.value(command.unit);
         }
-        keep_at(&mut self.values, &mut self.uses, command, place)
+        keep_at(&mut self.values, command, place)
     }
 
     /// Marks exactly the units whose value isn't the one that is wanted. Each unit that isn't marked has that value, and
@@ -340,29 +324,25 @@ impl Kept {
     }
 }
 
-/// The values at first: each unit of the chip stands at 0 with its supply.
+/// The values at first: each unit of the chip stands at 0.
 fn first_values(alloc: Global, t: &Topology) -> Result<UnitMap<KeptValue>, NoMemory>
     ensures { IfOk result (λ values. values ≡ at_zero t.now) }
 {
-    let mut values = UnitMap::load(alloc, t, idle())?;
-    give_supplies(&mut values, t);
-    Ok(values)
+    UnitMap::load(alloc, t, idle())
 }
 
-/// What is kept beside the values: the lists of the marked places, which are empty, the use counts and the kinds.
+/// What is kept beside the values: the lists of the marked places, which are empty, and the kinds.
 fn parts_of(
     alloc: Global,
     values: &UnitMap<KeptValue>,
     t: &Topology,
-) -> Result<(Places, Places, UseCounts, Kinds), NoMemory>
+) -> Result<(Places, Places, Kinds), NoMemory>
     ensures marked { IfOk result (λ parts. parts.0 ≡ record { items = []; room = length values.now }) }
     ensures spare { IfOk result (λ parts. parts.1 ≡ record { items = []; room = length values.now }) }
-    ensures uses { IfOk result (λ parts. CountsUses values.now parts.2) }
 {
     let end = values.len();
     let marked = Places::load(alloc, end)?;
     let spare = Places::load(alloc, end)?;
-    let uses = UseCounts::load(alloc, values)?;
     let kinds = Kinds::load(alloc, values, t)?;
-    Ok((marked, spare, uses, kinds))
+    Ok((marked, spare, kinds))
 }

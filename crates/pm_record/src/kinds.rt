@@ -1,4 +1,4 @@
-//! Which units of a record are power nodes.
+//! Of which kind the units of a record are.
 
 ghost use Rattle.std.specs.Prelude.{◌≡◌, true};
 ghost use Rattle.pm_topology.specs.Places.{IsKind, kind_of};
@@ -49,7 +49,7 @@ impl Kinds {
 
     /// The kind of a node, which is the unit at a place as a rule.
     #[inline(always)]
-    fn kind(&self, place: usize, node: NodeId, t: &Topology) -> Kind
+    pub(crate) fn kind(&self, place: usize, node: NodeId, t: &Topology) -> Kind
         requires { IsWellFormed t.now }
         ensures { result ≡ kind_of t.now node }
     {

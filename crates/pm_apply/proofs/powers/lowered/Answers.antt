@@ -1,5 +1,4 @@
 use Rattle.std.proofs.Common.{◌≡◌, ℕ, Some, None, slice_get, sym, ap, ◌∙◌}
-use Rattle.std.proofs.lemmas.Option.{slice_get_within}
 use Rattle.pm_base.specs.declared.names.Unit.{Unit}
 use Rattle.pm_base.specs.declared.names.Unit.TheVariants.{Node}
 use Rattle.pm_topology.specs.declared.topology.Topology.{Topology}
@@ -30,9 +29,7 @@ falls-requires-clause-at c =
 
 pub falls-requires-clause-there : goal.falls-requires-clause-there
 falls-requires-clause-there c =
-    let t = c.args.book.now.fixed.topology in
-    let here : slice_get t.powers c.args.place ≡ Some c.in-Some.power = ap (λ (t : Topology). slice_get t.powers c.args.place) (sym c.topology.ensures.topology) ∙ (sym c.power_at.ensures ∙ c.in-Some.is) in
-    slice_get_within t.powers c.args.place c.in-Some.power here
+    ap (λ (t : Topology). slice_get t.powers c.args.place) (sym c.topology.ensures.topology) ∙ (sym c.power_at.ensures ∙ c.in-Some.is)
 
 pub returns-then-falls-clause-some : goal.returns-then-falls-clause-some
 returns-then-falls-clause-some c =

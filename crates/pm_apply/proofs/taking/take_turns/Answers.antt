@@ -28,7 +28,7 @@ raise-requires-clause-followed g c =
     let values : Unit → ℕ = λ u. value u c.args.book.now in
     let laws : ChipLaws = record { units = c.units_stand_in_order.ensures; kinds = c.kinds_are_exact.ensures; table = c.unit_maps.ensures } in
     let pulse = c.args.out.now.pulse in
-    let start : IsFollowed t values pulse c.args.kept.now = record { units = c.requires.«record».units; supplies = c.requires.«record».supplies; ready = c.requires.ready } in
+    let start : IsFollowed t values pulse c.args.kept.now = record { units = c.requires.«record».units; ready = c.requires.ready } in
     start
 
 pub raise-requires-clause-room : goal.raise-requires-clause-room
@@ -37,7 +37,7 @@ raise-requires-clause-room g c =
     let values : Unit → ℕ = λ u. value u c.args.book.now in
     let laws : ChipLaws = record { units = c.units_stand_in_order.ensures; kinds = c.kinds_are_exact.ensures; table = c.unit_maps.ensures } in
     let pulse = c.args.out.now.pulse in
-    let start : IsFollowed t values pulse c.args.kept.now = record { units = c.requires.«record».units; supplies = c.requires.«record».supplies; ready = c.requires.ready } in
+    let start : IsFollowed t values pulse c.args.kept.now = record { units = c.requires.«record».units; ready = c.requires.ready } in
     let fits = most_of_step t values c.units_stand_in_order.ensures pulse in
     let none = ap length c.requires.fresh in
     let most = parts_most t values pulse in
@@ -55,7 +55,7 @@ settle-requires-clause-followed g c =
     let values : Unit → ℕ = λ u. value u c.args.book.now in
     let laws : ChipLaws = record { units = c.units_stand_in_order.ensures; kinds = c.kinds_are_exact.ensures; table = c.unit_maps.ensures } in
     let pulse = c.args.out.now.pulse in
-    let start : IsFollowed t values pulse c.args.kept.now = record { units = c.requires.«record».units; supplies = c.requires.«record».supplies; ready = c.requires.ready } in
+    let start : IsFollowed t values pulse c.args.kept.now = record { units = c.requires.«record».units; ready = c.requires.ready } in
     let raised = followed_then g.D.Device.Does laws t values pulse (flat_map (with_pulse pulse) (raises t)) c.args.kept.now c.raise.new.kept c.args.out.now.done.items c.raise.new.out.done.items c.args.dev.now c.raise.new.dev c.raise.ensures.takes
     (each_turn pulse (raises t) (none_raises t)) start
     in
@@ -68,7 +68,7 @@ settle-requires-clause-room g c =
     let values : Unit → ℕ = λ u. value u c.args.book.now in
     let laws : ChipLaws = record { units = c.units_stand_in_order.ensures; kinds = c.kinds_are_exact.ensures; table = c.unit_maps.ensures } in
     let pulse = c.args.out.now.pulse in
-    let start : IsFollowed t values pulse c.args.kept.now = record { units = c.requires.«record».units; supplies = c.requires.«record».supplies; ready = c.requires.ready } in
+    let start : IsFollowed t values pulse c.args.kept.now = record { units = c.requires.«record».units; ready = c.requires.ready } in
     let fits = most_of_step t values c.units_stand_in_order.ensures pulse in
     let none = ap length c.requires.fresh in
     let most = parts_most t values pulse in
@@ -82,7 +82,7 @@ lower-requires-clause-followed g c =
     let values : Unit → ℕ = λ u. value u c.args.book.now in
     let laws : ChipLaws = record { units = c.units_stand_in_order.ensures; kinds = c.kinds_are_exact.ensures; table = c.unit_maps.ensures } in
     let pulse = c.args.out.now.pulse in
-    let start : IsFollowed t values pulse c.args.kept.now = record { units = c.requires.«record».units; supplies = c.requires.«record».supplies; ready = c.requires.ready } in
+    let start : IsFollowed t values pulse c.args.kept.now = record { units = c.requires.«record».units; ready = c.requires.ready } in
     let raised = followed_then g.D.Device.Does laws t values pulse (flat_map (with_pulse pulse) (raises t)) c.args.kept.now c.raise.new.kept c.args.out.now.done.items c.raise.new.out.done.items c.args.dev.now c.raise.new.dev c.raise.ensures.takes
     (each_turn pulse (raises t) (none_raises t)) start
     in
@@ -101,7 +101,7 @@ lower-requires-clause-room g c =
     let values : Unit → ℕ = λ u. value u c.args.book.now in
     let laws : ChipLaws = record { units = c.units_stand_in_order.ensures; kinds = c.kinds_are_exact.ensures; table = c.unit_maps.ensures } in
     let pulse = c.args.out.now.pulse in
-    let start : IsFollowed t values pulse c.args.kept.now = record { units = c.requires.«record».units; supplies = c.requires.«record».supplies; ready = c.requires.ready } in
+    let start : IsFollowed t values pulse c.args.kept.now = record { units = c.requires.«record».units; ready = c.requires.ready } in
     let raised = followed_then g.D.Device.Does laws t values pulse (flat_map (with_pulse pulse) (raises t)) c.args.kept.now c.raise.new.kept c.args.out.now.done.items c.raise.new.out.done.items c.args.dev.now c.raise.new.dev c.raise.ensures.takes
     (each_turn pulse (raises t) (none_raises t)) start
     in
@@ -126,7 +126,7 @@ lower-requires-clause-rests g c =
     let values : Unit → ℕ = λ u. value u c.args.book.now in
     let laws : ChipLaws = record { units = c.units_stand_in_order.ensures; kinds = c.kinds_are_exact.ensures; table = c.unit_maps.ensures } in
     let pulse = c.args.out.now.pulse in
-    let start : IsFollowed t values pulse c.args.kept.now = record { units = c.requires.«record».units; supplies = c.requires.«record».supplies; ready = c.requires.ready } in
+    let start : IsFollowed t values pulse c.args.kept.now = record { units = c.requires.«record».units; ready = c.requires.ready } in
     let raised = followed_then g.D.Device.Does laws t values pulse (flat_map (with_pulse pulse) (raises t)) c.args.kept.now c.raise.new.kept c.args.out.now.done.items c.raise.new.out.done.items c.args.dev.now c.raise.new.dev c.raise.ensures.takes
     (each_turn pulse (raises t) (none_raises t)) start
     in
@@ -147,7 +147,7 @@ returns-clause-takes g c =
     let values : Unit → ℕ = λ u. value u c.args.book.now in
     let laws : ChipLaws = record { units = c.units_stand_in_order.ensures; kinds = c.kinds_are_exact.ensures; table = c.unit_maps.ensures } in
     let pulse = c.args.out.now.pulse in
-    let start : IsFollowed t values pulse c.args.kept.now = record { units = c.requires.«record».units; supplies = c.requires.«record».supplies; ready = c.requires.ready } in
+    let start : IsFollowed t values pulse c.args.kept.now = record { units = c.requires.«record».units; ready = c.requires.ready } in
     let raised = followed_then g.D.Device.Does laws t values pulse (flat_map (with_pulse pulse) (raises t)) c.args.kept.now c.raise.new.kept c.args.out.now.done.items c.raise.new.out.done.items c.args.dev.now c.raise.new.dev c.raise.ensures.takes
     (each_turn pulse (raises t) (none_raises t)) start
     in
@@ -172,7 +172,7 @@ returns-clause-followed g c =
     let values : Unit → ℕ = λ u. value u c.args.book.now in
     let laws : ChipLaws = record { units = c.units_stand_in_order.ensures; kinds = c.kinds_are_exact.ensures; table = c.unit_maps.ensures } in
     let pulse = c.args.out.now.pulse in
-    let start : IsFollowed t values pulse c.args.kept.now = record { units = c.requires.«record».units; supplies = c.requires.«record».supplies; ready = c.requires.ready } in
+    let start : IsFollowed t values pulse c.args.kept.now = record { units = c.requires.«record».units; ready = c.requires.ready } in
     let raised = followed_then g.D.Device.Does laws t values pulse (flat_map (with_pulse pulse) (raises t)) c.args.kept.now c.raise.new.kept c.args.out.now.done.items c.raise.new.out.done.items c.args.dev.now c.raise.new.dev c.raise.ensures.takes
     (each_turn pulse (raises t) (none_raises t)) start
     in

@@ -29,8 +29,8 @@ returns-in_default g c = record {
 pub take_pulse-requires-clause-units : goal.take_pulse-requires-clause-units
 take_pulse-requires-clause-units g c = c.requires.followed.units
 
-pub take_pulse-requires-clause-supplies : goal.take_pulse-requires-clause-supplies
-take_pulse-requires-clause-supplies g c = c.requires.followed.supplies
+pub take_pulse-requires-clause-stands : goal.take_pulse-requires-clause-stands
+take_pulse-requires-clause-stands g c = c.requires.followed.ready.stands
 
 pub take_pulse-requires-clause-room : goal.take_pulse-requires-clause-room
 take_pulse-requires-clause-room g c =
@@ -54,17 +54,6 @@ take_value-requires-clause-units g c =
     let each = Each-front (IsPulseOf pulse) (pulse_turn pulse unit) (Apply unit ∷ []) (are_pulses pulse (Apply unit) refl) in
     let followed = followed_then g.D.Device.Does laws t values pulse (pulse_turn pulse unit) c.args.kept.now c.take_pulse.new.kept c.args.out.now.done.items c.take_pulse.new.out.done.items c.args.dev.now c.take_pulse.new.dev c.take_pulse.ensures.takes each c.requires.followed in
     followed.units
-
-pub take_value-requires-clause-supplies : goal.take_value-requires-clause-supplies
-take_value-requires-clause-supplies g c =
-    let t = c.args.book.now.fixed.topology in
-    let values : Unit → ℕ = λ u. value u c.args.book.now in
-    let laws : ChipLaws = record { units = c.units_stand_in_order.ensures; kinds = c.kinds_are_exact.ensures; table = c.unit_maps.ensures } in
-    let pulse = c.args.out.now.pulse in
-    let unit = c.in-Some.unit in
-    let each = Each-front (IsPulseOf pulse) (pulse_turn pulse unit) (Apply unit ∷ []) (are_pulses pulse (Apply unit) refl) in
-    let followed = followed_then g.D.Device.Does laws t values pulse (pulse_turn pulse unit) c.args.kept.now c.take_pulse.new.kept c.args.out.now.done.items c.take_pulse.new.out.done.items c.args.dev.now c.take_pulse.new.dev c.take_pulse.ensures.takes each c.requires.followed in
-    followed.supplies
 
 pub take_value-requires-clause-there : goal.take_value-requires-clause-there
 take_value-requires-clause-there g c =

@@ -1,13 +1,12 @@
-use Rattle.std.proofs.Common.{◌≤◌, ◌^◌, ◌-◌, length, ap, subst, sym, ◌∙◌, arith}
+use Rattle.std.proofs.Common.{ap, sym, ◌∙◌}
 use Rattle.pm_topology.specs.UnitMap.{with_value_at}
 use Rattle.pm_record.specs.declared.kept.KeptValue.{KeptValue}
-use Rattle.pm_record.specs.Record.{CountsUses, Kept, kept_of}
+use Rattle.pm_record.specs.Record.{kept_of}
 use Rattle.pm_record.proofs.FoundLemmas.{kept_there, place_there}
-use Rattle.pm_record.proofs.UsesLemmas.{counted, few_uses, uses_changed}
 use Rattle.pm_record.proofs.entries.keep_at.Goals as goal
 
 pub returns-in_default-clause-entries : goal.returns-in_default-clause-entries
-returns-in_default-clause-entries c = absurd (place_there c.args.command.unit c.args.values.now c.args.place c.requires.place (sym c.entry.ensures ∙ c.in_default.is))
+returns-in_default-clause-entries c = absurd (place_there c.args.command.unit c.args.values.now c.args.place c.requires (sym c.entry.ensures ∙ c.in_default.is))
 
 pub returns-clause-entries : goal.returns-clause-entries
 returns-clause-entries c =
@@ -15,24 +14,9 @@ returns-clause-entries c =
     let rising = c.len-units.ensures.rising in
     c.set_at.ensures.entries
     ∙ ap (λ (k : KeptValue). with_value_at c.args.place (record k { value = c.args.command.value }) old)
-    (kept_there c.units_stand_in_order.ensures c.args.command.unit old c.args.place rising c.requires.place c.in-Some.found (sym c.entry.ensures ∙ c.in-Some.is))
-    ∙ c.unit_map_places.ensures.by_unit c.args.command.unit (record (kept_of old c.args.command.unit) { value = c.args.command.value }) old c.args.place rising c.requires.place
-
-pub change-requires-clause-some : goal.change-requires-clause-some
-change-requires-clause-some c = counted c.args.values.now c.args.uses.now c.requires.uses c.args.place c.in-Some.found (sym c.entry.ensures ∙ c.in-Some.is)
-
-pub change-requires-clause-few : goal.change-requires-clause-few
-change-requires-clause-few c =
-    let short : length c.args.values.now ≤ 2 ^ 64 - 1 = omega (arith, c.len-units.ensures.len, c.len-units.type_inv) in
-    few_uses c.args.values.now c.args.uses.now c.requires.uses c.args.place c.in-Some.found (sym c.entry.ensures ∙ c.in-Some.is) (record c.in-Some.found.1 { value = c.args.command.value }) short
-
-pub returns-clause-uses : goal.returns-clause-uses
-returns-clause-uses c =
-    let P : Kept → Type 0 = λ kept. CountsUses kept c.change.new.self in
-    subst P (sym c.set_at.ensures.entries)
-    (uses_changed c.args.values.now c.args.uses.now c.requires.uses c.args.place c.in-Some.found (sym c.entry.ensures ∙ c.in-Some.is) (record c.in-Some.found.1 { value = c.args.command.value })
-    c.change.new.self c.change.ensures.room c.change.ensures.counts)
+    (kept_there c.units_stand_in_order.ensures c.args.command.unit old c.args.place rising c.requires c.in-Some.found (sym c.entry.ensures ∙ c.in-Some.is))
+    ∙ c.unit_map_places.ensures.by_unit c.args.command.unit (record (kept_of old c.args.command.unit) { value = c.args.command.value }) old c.args.place rising c.requires
 
 pub returns-clause-before : goal.returns-clause-before
 returns-clause-before c =
-    ap (λ (k : KeptValue). k.value) (kept_there c.units_stand_in_order.ensures c.args.command.unit c.args.values.now c.args.place c.len-units.ensures.rising c.requires.place c.in-Some.found (sym c.entry.ensures ∙ c.in-Some.is))
+    ap (λ (k : KeptValue). k.value) (kept_there c.units_stand_in_order.ensures c.args.command.unit c.args.values.now c.args.place c.len-units.ensures.rising c.requires c.in-Some.found (sym c.entry.ensures ∙ c.in-Some.is))

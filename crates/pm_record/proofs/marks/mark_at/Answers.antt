@@ -4,10 +4,9 @@ use Rattle.std.proofs.lemmas.Bool.{both_ways, not-true}
 use Rattle.std.proofs.lemmas.Option.{slice_get_within}
 use Rattle.pm_base.specs.declared.names.Unit.{Unit}
 use Rattle.pm_topology.specs.UnitMap.{with_value_at}
-use Rattle.pm_record.specs.declared.kept.KeptValue.{KeptValue}
 use Rattle.pm_record.specs.Marks.{Remakes}
 use Rattle.pm_record.specs.Record.{Kept, mark}
-use Rattle.pm_record.proofs.ListedLemmas.{lags_made, remakes_at, remakes_none, unit_there}
+use Rattle.pm_record.proofs.ListedLemmas.{lags_made, remakes_at, unit_there}
 use Rattle.pm_record.proofs.marks.mark_at.Goals as goal
 
 pub value_at-requires : goal.value_at-requires

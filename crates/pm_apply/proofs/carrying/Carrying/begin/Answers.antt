@@ -26,7 +26,6 @@ returns-clause-followed c =
     in
     record {
       units = record_of.units;
-      supplies = record_of.supplies;
       ready = ready_then (record { units = c.units_stand_in_order.ensures; kinds = c.kinds_are_exact.ensures; table = c.unit_maps.ensures }) c.args.book.now.fixed.topology (λ u. value u c.args.book.now) c.args.out.now.pulse c.args.out.now.moved.items
           c.args.kept.now c.mark_moved.new.self c.mark_pulsed.new.self c.requires.«record» c.requires.marked marks c.mark_pulsed.ensures;
     }

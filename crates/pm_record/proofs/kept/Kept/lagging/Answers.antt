@@ -1,8 +1,7 @@
-use Rattle.std.proofs.Common.{◌≡◌, ◌==◌, ◌&&◌, Some, None, slice_get, true, ap, sym, subst, ◌∙◌}
+use Rattle.std.proofs.Common.{◌≡◌, ◌==◌, ◌&&◌, Some, slice_get, ap, sym, subst, ◌∙◌}
 use Rattle.std.proofs.lemmas.Bool.{eqb-true}
 use Rattle.pm_base.proofs.Booleans.{both}
 use Rattle.pm_topology.specs.UnitMap.{place_of, units_in}
-use Rattle.pm_topology.specs.Units.{rises}
 use Rattle.pm_record.specs.declared.kept.KeptValue.{KeptValue}
 use Rattle.pm_record.specs.Record.{Kept, kept_of}
 use Rattle.pm_record.proofs.FoundLemmas.{gone_idle, kept_there, place_there, stands_there}

@@ -2,7 +2,7 @@ use Rattle.std.proofs.Common.{◌≡◌, ◌∙◌, [], ℕ, List, Result, Ok, l
 use Rattle.std.specs.Prelude.{IfOk}
 use Rattle.pm_base.specs.BoundedList.{Bounded}
 use Rattle.pm_topology.specs.Units.{units_of}
-use Rattle.pm_record.specs.Record.{CountsUses, IsRecordOf, IsAtZero, Kept}
+use Rattle.pm_record.specs.Record.{IsRecordOf, IsAtZero, Kept}
 use Rattle.pm_record.specs.Marks.{LagsWithin}
 use Rattle.pm_record.proofs.ListedLemmas.{none_listed}
 use Rattle.pm_record.proofs.kept.Kept.load.Goals as goal
@@ -13,22 +13,18 @@ of_ok {X = X} {E = E} P made x is holds = let Q : Result X E → Type 0 = λ mad
 
 pub invariant_of-result : goal.invariant_of-result
 invariant_of-result c =
-    let t = c.args.t.now in
     let first = c.in_ok-values.ensures in
     let is = c.in_ok-values-2.ensures.0 in
     let marked = of_ok _ _ _ c.in_ok-values-2.ensures.1 c.parts_of-parts.ensures.marked in
     let spare = of_ok _ _ _ c.in_ok-values-2.ensures.1 c.parts_of-parts.ensures.spare in
     let P : List ℕ → Type 0 = λ items. LagsWithin items c.in_ok-values-2.values in
     let Q : Kept → Type 0 = λ kept. LagsWithin [] kept in
-    let uses : CountsUses c.in_ok-values.values c.in_ok-values-2.uses = of_ok _ _ _ c.in_ok-values-2.ensures.1 c.parts_of-parts.ensures.uses in
-    let R : Kept → Type 0 = λ kept. CountsUses kept c.in_ok-values-2.uses in
     record {
       marks = record {
-        lags = subst P (sym (ap (λ (p : Bounded ℕ). p.items) marked)) (subst Q (sym (is ∙ first)) (none_listed t (units_of t)));
+        lags = subst P (sym (ap (λ (p : Bounded ℕ). p.items) marked)) (subst Q (sym (is ∙ first)) (none_listed (units_of c.args.t.now)));
         room = ap (λ (p : Bounded ℕ). p.room) marked ∙ ap (λ (kept : Kept). length kept) (sym is);
         other = ap (λ (p : Bounded ℕ). p.room) spare ∙ ap (λ (kept : Kept). length kept) (sym is);
       };
-      uses = subst R (sym is) uses;
     }
 
 pub returns-clause-first : goal.returns-clause-first

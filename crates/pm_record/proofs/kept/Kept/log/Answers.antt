@@ -16,5 +16,4 @@ invariant_of-self c =
         room = c.self.invariant.marks.room ∙ sym long;
         other = c.self.invariant.marks.other ∙ sym long;
       };
-      uses = c.keep.ensures.uses;
     }

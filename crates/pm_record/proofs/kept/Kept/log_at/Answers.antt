@@ -6,8 +6,8 @@ use Rattle.pm_record.proofs.FoundLemmas.{stands_at_place}
 use Rattle.pm_record.proofs.ListedLemmas.{lags_keep, set_length}
 use Rattle.pm_record.proofs.kept.Kept.log_at.Goals as goal
 
-pub keep_at-requires-clause-place : goal.keep_at-requires-clause-place
-keep_at-requires-clause-place c =
+pub keep_at-requires : goal.keep_at-requires
+keep_at-requires c =
     let P : Kept → Type 0 = λ kept. slice_get (units_in kept) c.args.place ≡ Some c.args.command.unit in
     stands_at_place c.units_stand_in_order.ensures c.self.inside.values c.args.place c.args.command.unit c.len-units.ensures.rising (subst P (sym c.self.view_is) c.requires)
 
@@ -23,5 +23,4 @@ invariant_of-self c =
         room = c.self.invariant.marks.room ∙ sym long;
         other = c.self.invariant.marks.other ∙ sym long;
       };
-      uses = c.keep_at.ensures.uses;
     }

@@ -4,9 +4,8 @@ use Rattle.pm_base.specs.BoundedList.{Bounded}
 use Rattle.pm_base.specs.declared.names.Unit.{Unit}
 use Rattle.pm_topology.specs.UnitMap.{remade, units_in}
 use Rattle.pm_topology.specs.Units.{rises}
-use Rattle.pm_record.specs.Record.{CountsUses, Kept, mark}
+use Rattle.pm_record.specs.Record.{Kept, mark}
 use Rattle.pm_record.proofs.UnmarkedLemmas.{marks_stay}
-use Rattle.pm_record.proofs.UsesLemmas.{uses_marked}
 use Rattle.pm_record.proofs.kept.Kept.mark.Goals as goal
 
 pub returns-then-not-has_marks : goal.returns-then-not-has_marks
@@ -26,7 +25,6 @@ invariant_of-self g c =
     let values : Unit → ℕ = g.W.Wanted.value c.args.wanted.now in
     let old = c.self.inside.values in
     let long : length c.mark_all.new.values ≡ length old = ap (λ (kept : Kept). length kept) c.mark_all.ensures.marked ∙ length-map old (remade (mark values)) in
-    let P : Kept → Type 0 = λ kept. CountsUses kept c.self.inside.uses in
     record {
       marks = record {
         lags = c.mark_all.ensures.lags;
@@ -34,5 +32,4 @@ invariant_of-self g c =
             ∙ (ap (λ (p : Bounded ℕ). p.room) c.clear.ensures ∙ (ap (λ (p : Bounded ℕ). p.room) c.swap.ensures.x_after ∙ (c.self.invariant.marks.other ∙ sym long)));
         other = ap (λ (p : Bounded ℕ). p.room) c.swap.ensures.y_after ∙ (c.self.invariant.marks.room ∙ sym long);
       };
-      uses = subst P (sym c.mark_all.ensures.marked) (uses_marked values old c.self.inside.uses c.self.invariant.uses);
     }

@@ -1,10 +1,9 @@
 use Rattle.std.proofs.Common.{◌≡◌, ◌∷◌, [], Some, length, true, ap, sym, subst, ◌∙◌, arith}
 use Rattle.pm_topology.specs.UnitMap.{place_of}
-use Rattle.pm_record.specs.Record.{CountsUses, Kept, kept_of}
-use Rattle.pm_record.specs.Marks.{LagsWithin, Marks, with_mark}
+use Rattle.pm_record.specs.Record.{Kept, kept_of}
+use Rattle.pm_record.specs.Marks.{LagsWithin, Marks}
 use Rattle.pm_record.proofs.ListedLemmas.{lags_marked, marks_nowhere, place_within, set_length}
 use Rattle.pm_record.proofs.MarkingLemmas.{marks_one}
-use Rattle.pm_record.proofs.UsesLemmas.{uses_alike}
 use Rattle.pm_record.proofs.kept.Kept.mark_one.Goals as goal
 
 pub insert-requires : goal.insert-requires
@@ -19,8 +18,6 @@ invariant_of-self c =
     let long = ap (λ (kept : Kept). length kept) c.set_mark.ensures.entries
     ∙ set_length (record { units = c.units_stand_in_order.ensures; kinds = c.kinds_are_exact.ensures; table = c.unit_maps.ensures }) c.args.unit (record (kept_of c.self.inside.values c.args.unit) { lags = true }) c.self.inside.values
     in
-    let Q : Kept → Type 0 = λ kept. CountsUses kept c.self.inside.uses in
-    let marks = marks_one (record { units = c.units_stand_in_order.ensures; kinds = c.kinds_are_exact.ensures; table = c.unit_maps.ensures }) c.args.unit c.self.inside.values c.set_mark.ensures.rising in
     record {
       marks = record {
         lags = subst P (sym c.set_mark.ensures.entries)
@@ -28,7 +25,6 @@ invariant_of-self c =
         room = c.insert.ensures.room ∙ (c.self.invariant.marks.room ∙ sym long);
         other = c.self.invariant.marks.other ∙ sym long;
       };
-      uses = subst Q (sym c.set_mark.ensures.entries) (uses_alike c.self.inside.values (with_mark c.args.unit c.self.inside.values) c.self.inside.uses (marks.alike (λ u. 0)) c.self.invariant.uses);
     }
 
 pub returns : goal.returns
