@@ -96,7 +96,7 @@ module _ (m : NodeId) where
       ∙ (notes_found n (notes_of x)
       ∙ ap (map (busy_line n)) (none_called line.notes line.after.book.fixed.topology line.event (reply_after None x.cores))))
 
-  -- nor does a board or a clock change them
+  -- nor do a board and the clocks change the lines of full boxes
   busy_is_deaf : IsDeaf (tells_busy m)
   busy_is_deaf = record {
     replies = λ n master response. no_line n (told.Reply master response);

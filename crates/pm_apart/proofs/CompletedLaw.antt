@@ -1,5 +1,5 @@
--- A board and the clocks change no line of a run but replies and what is written of power calls, tasks and clocks: a test that finds
--- none of these finds the same lines with the clocks, and whatever board the run begins with.
+-- A board and the clocks change only replies and the lines of power calls, tasks and clocks. A test that finds none
+-- of these finds the same lines with and without them.
 use Rattle.std.proofs.Common.{◌≡◌, ℕ, ℤ, ◌+◌, Bool, true, false, if◌then◌else◌, List, [], ◌∷◌, ◌++◌, Option, Some, None, refl, ap, sym, ◌∙◌}
 use Rattle.std.specs.Prelude.{filter, flat_map, map, option_to_list, unwrap_or}
 use Rattle.pm_base.specs.declared.events.Event.{Event}
@@ -38,7 +38,7 @@ use Rattle.pm_apart.specs.Lines.{driven_lines, given_lines, is_about, note_lines
 use Rattle.pm_apart.proofs.FilterLemmas.{after_alike, left_out, none_after, parts_alike}
 use Rattle.pm_apart.proofs.TextsLaw.{made_twice, note_apart}
 
--- a line that tells this, and the line of a note, in a script line of this number
+-- the line that tells this, and the line of a note, in the script line with this number
 abbrev pub told_line : ℕ → StepLine → List Word
 told_line n line = numbered n (step_words line)
 
@@ -57,7 +57,7 @@ module _ (p : List Word → Bool) (deaf : IsDeaf p) where
   module _ (n : ℕ) where
     -- ---- of a core step
 
-    -- where another answer is told of which the test finds the same
+    -- with another answer whose line the test finds, or not, as the first one's
     with_answer : (g : Given) (other : Answer)
         → filter p (map (told_line n) (option_to_list (answer_line other))) ≡ filter p (map (told_line n) (option_to_list (answer_line g.part.answer)))
         → filter p (given_lines n (record g { part = record g.part { answer = other } })) ≡ filter p (given_lines n g)
@@ -154,7 +154,7 @@ module _ (p : List Word → Bool) (deaf : IsDeaf p) where
     none_of_clocks : (tree : Tree) (given : List Given) → filter p (note_lines n (clock_notes tree given)) ≡ []
     none_of_clocks tree given = none_turned (turned tree (tree_along given tree))
 
-    -- where more notes follow those of a line of which the test finds none, whatever is replied
+    -- with more notes behind those of a line, none of which the test finds, whatever the reply
     with_notes : (own more : List Note) (t : Topology) (event : Event) (new old : Option Response) → filter p (note_lines n more) ≡ []
         → filter p (note_lines n ((own ++ more) ++ called_note t event new)) ≡ filter p (note_lines n (own ++ called_note t event old))
     with_notes own more t event new old none =
@@ -199,11 +199,11 @@ module _ (p : List Word → Bool) (deaf : IsDeaf p) where
       parts_alike p (driven_lines n (clocked_line tree x)) (step_lines (n + 1) (clocked_by after xs)) (driven_lines n x) (step_lines (n + 1) xs)
       (clock_line_alike n tree x) (clocks_alike after (n + 1) xs)
 
-  -- with the clocks and a board
+  -- the test finds the same lines with the clocks and a board as without
   pub completed_alike : (c : Setup) (board : Standing) (xs : List Driven) → filter p (step_lines 0 (completed_in c board xs)) ≡ filter p (step_lines 0 xs)
   completed_alike c board xs = board_alike board 0 (clocked c xs) ∙ clocks_alike (first_tree c) 0 xs
 
-  -- so what is the same of two runs without a board and clocks is so with them, whatever two boards they begin with
+  -- two runs with equal findings have them with any boards too
   pub boards_alike : (c : Setup) (board other : Standing) (xs ys : List Driven) → filter p (step_lines 0 xs) ≡ filter p (step_lines 0 ys)
       → filter p (step_lines 0 (completed_in c board xs)) ≡ filter p (step_lines 0 (completed_in c other ys))
   boards_alike c board other xs ys same = completed_alike c board xs ∙ (same ∙ sym (completed_alike c other ys))

@@ -1,4 +1,4 @@
--- What holds of the elements of one list, or of two lists one by one, holds of the first ones, up to a cut.
+-- A property of the elements of a list, or of two lists one by one, holds of the first ones, up to a cut.
 use Rattle.std.proofs.Common.{ℕ, ◌+◌, zero, suc, List, [], ◌∷◌, take, Option, Some, None}
 use Rattle.std.specs.List.{AllByRecursion as Each}
 use Rattle.pm_laws.specs.Both.{Both}

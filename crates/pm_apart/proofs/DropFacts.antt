@@ -50,7 +50,7 @@ cores_drop : (events : List Event) (book : State) → Each Drops (cores_of event
 cores_drop [] book = tt
 cores_drop (event ∷ events) book = (event_drops event book (effect event book), cores_drop events (effect event book))
 
--- so in each core step of a line
+-- each core step of a line is so
 abbrev pub LineDrops : Line → Type 0
 LineDrops line = Each Drops line.cores
 

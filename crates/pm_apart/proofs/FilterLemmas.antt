@@ -1,9 +1,9 @@
--- Lists of what passes a test.
+-- Lists filtered by a test.
 use Rattle.std.proofs.Common.{◌≡◌, Bool, true, false, cond, List, [], ◌∷◌, ◌++◌, refl, ap, sym, ◌∙◌}
 use Rattle.std.specs.Prelude.{filter, flat_map, map}
 use Rattle.std.proofs.lemmas.List.Elements.{filter-append}
 
--- what is made of elements passes a test where they pass another one
+-- mapping and then filtering is filtering by the same test before, and then mapping
 pub filter_made : {X Y : Type 0} (test : Y → Bool) (p : X → Bool) (f : X → Y) → ((x : X) → test (f x) ≡ p x) → (xs : List X)
     → filter test (map f xs) ≡ map f (filter p xs)
 filter_made test p f same [] = refl
@@ -22,7 +22,7 @@ left_out p x xs fails = ap (λ b. cond b (x ∷ filter p xs) (filter p xs)) fail
 pub kept_in : {X : Type 0} (p : X → Bool) (x : X) (xs : List X) → p x ≡ true → filter p (x ∷ xs) ≡ x ∷ filter p xs
 kept_in p x xs passes = ap (λ b. cond b (x ∷ filter p xs) (filter p xs)) passes
 
--- two lists of two parts each, of whose first parts the same passes, and of their second ones
+-- equal findings in both parts of two lists are equal findings in the whole
 pub parts_alike : {X : Type 0} (p : X → Bool) (a b c d : List X) → filter p a ≡ filter p c → filter p b ≡ filter p d
     → filter p (a ++ b) ≡ filter p (c ++ d)
 parts_alike p a b c d first second =
@@ -30,7 +30,7 @@ parts_alike p a b c d first second =
     ∙ (ap (λ xs. xs ++ filter p b) first
     ∙ (ap (λ xs. filter p c ++ xs) second ∙ sym (filter-append p c d)))
 
--- of two lists nothing passes
+-- two lists without a finding have none when joined
 pub none_of_both : {X : Type 0} (p : X → Bool) (a b : List X) → filter p a ≡ [] → filter p b ≡ [] → filter p (a ++ b) ≡ []
 none_of_both p a b first second = parts_alike p a b [] [] first second
 
@@ -40,13 +40,13 @@ pub made_alike : {X Y : Type 0} (p : Y → Bool) (f g : X → List Y) → ((x : 
 made_alike p f g same [] = refl
 made_alike p f g same (x ∷ xs) = parts_alike p (f x) (flat_map f xs) (g x) (flat_map g xs) (same x) (made_alike p f g same xs)
 
--- what passes of elements that are made of two lists is the same where it is of those made of the second ones
+-- the findings among elements made of two lists are equal if those made of the second ones are
 pub after_alike : {X Y : Type 0} (p : Y → Bool) (f : X → Y) (xs ys zs : List X) → filter p (map f ys) ≡ filter p (map f zs)
     → filter p (map f (xs ++ ys)) ≡ filter p (map f (xs ++ zs))
 after_alike p f [] ys zs same = same
 after_alike p f (x ∷ xs) ys zs same = ap (λ later. cond (p (f x)) (f x ∷ later) later) (after_alike p f xs ys zs same)
 
--- and it is what passes of those made of the first one, where nothing passes of the second
+-- they are the findings of the first list, if the second has none
 pub none_after : {X Y : Type 0} (p : Y → Bool) (f : X → Y) (xs ys : List X) → filter p (map f ys) ≡ []
     → filter p (map f (xs ++ ys)) ≡ filter p (map f xs)
 none_after p f [] ys none = none

@@ -1,4 +1,4 @@
--- The lines that a test finds among those of a run: what it finds of each script line, one after another.
+-- The lines of a run that a test finds: the findings of each script line, one after another.
 use Rattle.std.proofs.Common.{◌≡◌, ℕ, ◌+◌, Bool, List, [], ◌∷◌, ◌++◌, Option, refl, ap, sym, ◌∙◌}
 use Rattle.std.specs.Prelude.{filter}
 use Rattle.std.specs.List.{AllByRecursion as Each}
@@ -18,12 +18,12 @@ use Rattle.pm_apart.proofs.Cuts.{until_both, until_each}
 use Rattle.pm_apart.proofs.DropFacts.{LineDrops, run_drops}
 
 module _ (T : List Word → Bool) (L : ℕ → ScriptLine → List (List Word)) where
-  -- of the lines of a script line the test finds these, whatever the device answers
+  -- the findings in a script line, whatever the device answers
   abbrev pub LineFinds : Type 0
   LineFinds = (n : ℕ) (kept : Kept) (answers : List (List Bool)) (line : ScriptLine) → LineDrops line
       → filter T (driven_lines n (drive_line kept answers line)) ≡ L n line
 
-  -- those of script lines, the first of which has this number
+  -- the findings in script lines, the first of which has this number
   abbrev found_from : ℕ → List ScriptLine → List (List Word)
   found_from n [] = []
   found_from n (line ∷ lines) = L n line ++ found_from (n + 1) lines
@@ -56,7 +56,7 @@ module _ (T : List Word → Bool) (L : ℕ → ScriptLine → List (List Word)) 
         ap (λ xs. filter T (step_lines 0 xs)) (until-drive cut (run c events) (at_zero c.topology) answers)
         ∙ driven_found 0 (until cut (run c events)) (at_zero c.topology) answers (until_each LineDrops cut (run c events) (run_drops c events))
 
-    -- where the same is found of the lines of two runs, the same is found of what is written of them
+    -- equal findings in the lines of two runs are equal findings in their texts
     pub runs_found : (c : Setup) (m : NodeId) (events : List Event) (answers others : List (List Bool)) (cut : Option ℕ)
         → Both IsFound (run c events) (run c (quiet m events))
         → filter T (step_lines 0 (until cut (driven c answers events))) ≡ filter T (step_lines 0 (until cut (driven c others (quiet m events))))

@@ -1,5 +1,5 @@
--- The commands of a plan on one reset line, where none is refused: they follow from its value in the record, its value in the
--- book, and whether it is the line that is pulsed.
+-- The commands of a plan on one reset line, if none is refused: they follow from its value in the record, its value
+-- in the book, and whether it is pulsed.
 use Rattle.std.proofs.Common.{◌≡◌, ℕ, ◌==◌, Bool, true, false, not, ◌&&◌, cond, if◌then◌else◌, Option, Some, None, List, [], ◌∷◌, ◌++◌, refl, ap, sym, ◌∙◌}
 use Rattle.std.specs.Prelude.{filter, flat_map, map, reverse}
 use Rattle.std.proofs.lemmas.Bool.{both_ways, eqb-true}
@@ -63,7 +63,7 @@ module _ (t : Topology) (border : Border) (l : LineId) (beyond : line_beyond bor
         seen_pulse first unit ∙ (ap (λ pulse. concerning (pulse_turn pulse unit)) same ∙ sym (seen_pulse second unit))
     before_alike _ = refl
 
-    -- where the same line beyond is pulsed, the same turns concern one
+    -- the same pulsed line beyond concerns the same turns
     pub turns_alike : concerning (turns_of t first) ≡ concerning (turns_of t second)
     turns_alike =
         made_alike (concerns l) (with_pulse first) (with_pulse second)
@@ -72,7 +72,7 @@ module _ (t : Topology) (border : Border) (l : LineId) (beyond : line_beyond bor
 
 -- ---- the commands
 
--- the commands of turns that concern a line whose value in the book is the first number, from one in the record
+-- the commands of turns that concern a line, to the first value from the second, in the record
 abbrev pub line_commands : LineId → ℕ → ℕ → List Turn → List Done
 line_commands l value kept [] = []
 line_commands l value kept (PowerOn w ∷ turns) = line_commands l value kept turns

@@ -30,7 +30,7 @@ use Rattle.pm_apart.proofs.TablesLaw.{clocks_apart, line_same, table_same}
 use Rattle.pm_apart.proofs.TextsLaw.{lines_about}
 use Rattle.pm_laws.specs.Border.{AreObjects}
 
--- where the same commands are given step by step, their lines are the same
+-- equal commands, step by step, have equal lines
 set_same : (u : Unit) (n : ℕ) (xs ys : List Driven) → AreDrivenAlike u xs ys → set_lines u n xs ≡ set_lines u n ys
 set_same u n [] [] alike = refl
 set_same u n [] (y ∷ ys) alike = absurd alike

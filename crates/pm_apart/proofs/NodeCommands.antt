@@ -1,4 +1,4 @@
--- The commands of a plan on one node, where none is refused: one where its value moves, and else none.
+-- The commands of a plan on one node, if none is refused: one if its value changes, else none.
 use Rattle.std.proofs.Common.{◌≡◌, ◌≢◌, ℕ, ◌==◌, Bool, true, false, cond, if◌then◌else◌, Option, Some, None, List, [], ◌∷◌, refl, ap, sym, ◌∙◌, subst}
 use Rattle.std.specs.Prelude.{filter}
 use Rattle.std.proofs.lemmas.Bool.{both_ways, eq-eqb, ne_eqb}
@@ -22,7 +22,7 @@ use Rattle.pm_apart.proofs.FilterLemmas.{kept_in, left_out}
 use Rattle.pm_apart.proofs.RecordFacts.{ChipLaws, other_kept, own_kept, units_stay}
 use Rattle.pm_apart.proofs.TurnFacts.{Sets, command_to, lowers, pulses, raises, settles}
 
--- the commands that take a unit from a value to another one: none where they are the same
+-- the commands that take a unit from one value to another: none if they are equal
 abbrev pub moves : Unit → ℕ → ℕ → List Done
 moves unit from value = if from == value then [] else command_to unit from value ∷ []
 
@@ -68,7 +68,8 @@ module _ (laws : ChipLaws) (t : Topology) (values : Unit → ℕ) (node : NodeId
   turn_sets (Pulse line) kept c is here =
       absurd (line_apart line (sym (ap (λ (c : Command). c.unit) (pulses t values kept line c is)) ∙ here))
 
-  -- the plan of these turns has one command on the node where its value moves, once the record has the book's value after it
+  -- the plan of these turns has one command on the node if its value changes, given that the record has the book's
+  -- value after it
   abbrev IsMoved : List Turn → Type 0
   IsMoved turns =
       (kept : Kept) → has_in (units_in kept) u ≡ true → kept_value (plan t values turns kept []).kept u ≡ values u

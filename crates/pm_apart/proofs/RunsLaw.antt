@@ -1,5 +1,5 @@
--- Two runs over a device that never fails, one of them without the messages of a master, set beside one another: on a unit beyond
--- its reach the same commands are given line by line, and in the end it stands alike.
+-- Two runs over a device that never fails, one without the messages of a master, set beside one another. On a unit
+-- beyond its reach, line by line the same commands are given, and in the end its values are equal.
 use Rattle.std.proofs.Common.{◌≡◌, ℕ, true, List, [], ◌∷◌, refl, ap, sym, ◌∙◌, subst}
 use Rattle.std.specs.Prelude.{filter}
 use Rattle.pm_base.specs.declared.events.Event.{Event}
@@ -32,7 +32,7 @@ use Rattle.pm_apart.specs.Lines.{commands_of, is_on}
 use Rattle.pm_apart.proofs.FilterLemmas.{parts_alike}
 use Rattle.pm_apart.proofs.PartsLaw.{PartLaws, commands_alike, kept_alike, nothing_kept, nothing_on, part_reached, record_next}
 
--- what is known of two runs, and of two books that agree beyond the reach of a master
+-- the laws of two runs, and of two books that agree beyond the reach of a master
 pub record ReachLaws : Type 0 where
   pub beside : (c : Setup) (m : NodeId) (events : List Event) → AreObjects (fixed_of c) → IsWellFormed c.topology → AreWorldsBeside c m events
   pub closed : (fixed : Fixed) (m : NodeId) → AreObjects fixed → IsWellFormed fixed.topology → IsClosed fixed (border_of fixed m)
@@ -50,7 +50,7 @@ module _ (laws : ReachLaws) (c : Setup) (m : NodeId) (u : Unit) (object : AreObj
   abbrev border : Border
   border = border_of (fixed_of c) m
 
-  -- two runs stand alike: their books agree beyond the reach, and the same is kept of the unit, which is the book's value
+  -- two runs are alike: their books agree beyond the reach, and both keep the book's value of the unit
   pub record StandAlike (a b : State) (first second : Kept) : Type 0 where
     pub is_a : IsBookOf c a
     pub is_b : IsBookOf c b
@@ -139,7 +139,7 @@ module _ (laws : ReachLaws) (c : Setup) (m : NodeId) (u : Unit) (object : AreObj
 
   -- ---- all lines
 
-  -- where two driven runs stand alike, they are driven alike, and stand alike in the end
+  -- two driven runs that are alike at first are driven alike, and are alike at the end
   pub record EndAlike (a b : State) (first second : Kept) (xs ys : List Driven) : Type 0 where
     pub commands : AreDrivenAlike u xs ys
     pub end : StandAlike (last_book a xs) (last_book b ys) (last_kept first xs) (last_kept second ys)

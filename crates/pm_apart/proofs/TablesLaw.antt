@@ -1,4 +1,4 @@
--- The closing tables of two runs that stand alike: the lines about a unit beyond are the same.
+-- The closing tables of two runs that are alike: the lines about a unit beyond are the same.
 use Rattle.std.proofs.Common.{◌≡◌, ℕ, ◌==◌, ◌&&◌, Bool, true, false, if◌then◌else◌, List, [], ◌∷◌, ◌++◌, refl, ap, sym, ◌∙◌, subst}
 use Rattle.std.specs.Prelude.{codes, filter, flat_map}
 use Rattle.pm_base.specs.declared.names.NodeId.{NodeId}
@@ -70,7 +70,7 @@ clock_apart (Line line) end = refl
 pub clocks_apart : (u : Unit) (tree : Tree) → filter (is_about u) (clock_lines tree) ≡ []
 clocks_apart u tree = none_made (is_about u) end_words (clock_apart u) (ends tree)
 
--- ---- two runs that stand alike
+-- ---- two runs that are alike
 
 module _ (laws : ReachLaws) (c : Setup) (m : NodeId) (u : Unit) (object : AreObjects (fixed_of c)) (chip : IsWellFormed c.topology)
     (beyond : IsOutOfReach c m u) where

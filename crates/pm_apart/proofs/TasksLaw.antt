@@ -1,4 +1,4 @@
--- The lines of tasks are those of the run without the messages of a master, where the tasks of the two boards stand the same.
+-- The lines of tasks are those of the run without the messages of a master, if the tasks of the two boards are equal.
 use Rattle.std.proofs.Common.{◌≡◌, ℕ, ℤ, ◌+◌, ◌==◌, Bool, true, false, if◌then◌else◌, List, [], ◌∷◌, ◌++◌, Option, Some, None, refl, ap, sym, ◌∙◌}
 use Rattle.std.specs.Prelude.{⊤, filter, flat_map, map}
 use Rattle.std.specs.List.{AllByRecursion as Each}
@@ -46,7 +46,7 @@ use Rattle.pm_apart.proofs.TextsLaw.{none_given}
 
 -- ---- which notes tell of tasks
 
--- a note that is of no task, and one of a task
+-- a note that isn't of a task, and one that is
 abbrev IsOther : Note → Type 0
 IsOther (Busy master) = ⊤
 IsOther (Clock number from to) = ⊤
@@ -158,7 +158,7 @@ module _ (n : ℕ) where
       ∙ (ap (λ lines. lines ++ filter tells_task (note_lines n tasks)) (none_other x.line.notes own)
       ∙ all_found tasks (tasks_are event board.tasks))))))
 
--- what script lines tell of tasks that stand so, the first of which has this number
+-- the lines of script lines, the first of which has this number, about these tasks
 abbrev told_of_tasks : ℕ → Timetable → List ScriptLine → List (List Word)
 told_of_tasks n t [] = []
 told_of_tasks n t (line ∷ lines) = note_lines n (task_notes line.event t) ++ told_of_tasks (n + 1) (settled (begun line.event (settled t))) lines

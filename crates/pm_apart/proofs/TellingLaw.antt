@@ -64,7 +64,7 @@ use Rattle.pm_apart.proofs.TextsLaw.{made_twice, none_made}
 abbrev line_of : ℕ → StepLine → List Word
 line_of n line = numbered n (step_words line)
 
--- what is made of core steps, where it is made of the parts of a list one by one
+-- lists made of core steps, if they are made of each part one by one
 made_flat : {X : Type 0} (f : Core → List X) (G : List X → List StepLine) → G [] ≡ [] → ((xs ys : List X) → G (xs ++ ys) ≡ G xs ++ G ys)
     → (cores : List Core) → flat_map (λ core. G (f core)) cores ≡ G (flat_map f cores)
 made_flat f G none parts [] = sym none
@@ -107,7 +107,7 @@ module _ (T : List Word → Bool) (F : Core → List StepLine) (none : (n : ℕ)
         ∙ (ap (λ found. lines_found n line ++ found) (no_notes n notes)
         ∙ append-nil (lines_found n line)))
 
--- a test on what a line tells, of which the lines pass that it is made of
+-- a test of lines by the outputs that they tell
 module _ (T : List Word → Bool) (n : ℕ) (p : StepLine → Bool) (same : (line : StepLine) → T (line_of n line) ≡ p line) where
   by_line : (lines : List StepLine) → filter T (map (numbered n) (map step_words lines)) ≡ map (line_of n) (filter p lines)
   by_line lines = ap (filter T) (made_twice step_words (numbered n) lines) ∙ filter_made T p (line_of n) same lines
@@ -127,7 +127,7 @@ fails_anyway false = refl
 two_parts : (p : StepLine → Bool) (a b c d : List StepLine) → filter p a ≡ c → filter p b ≡ d → filter p (a ++ b) ≡ c ++ d
 two_parts p a b c d first second = filter-append p a b ∙ (ap (λ xs. xs ++ filter p b) first ∙ ap (λ xs. c ++ xs) second)
 
--- of the lines of a core step those pass that pass of its five parts
+-- the findings in the lines of a core step are those in its five parts
 five_parts : (p : StepLine → Bool) (g : Given) (commands starts late calls answer : List StepLine)
     → filter p (map told.Command g.part.commands) ≡ commands → filter p (map told.Start g.core.outputs.starts) ≡ starts
     → filter p (map late_line g.core.outputs.late) ≡ late → filter p (map told.Call g.core.outputs.callbacks) ≡ calls

@@ -1,4 +1,4 @@
--- Which command a turn has: but for a pulse, one that sets a unit to the book's value where the record has another one.
+-- The command of a turn: unless it is a pulse, it sets a unit to the book's value if the record has another one.
 use Rattle.std.proofs.Common.{◌≡◌, ◌≢◌, ℕ, ◌==◌, Bool, true, false, not, ◌||◌, Option, Some, None, refl, ap, sym, ◌∙◌, arith}
 use Rattle.std.specs.Prelude.{slice_get}
 use Rattle.std.proofs.lemmas.Bool.{eqb-true, eqb-false, not-true}
@@ -17,7 +17,7 @@ use Rattle.pm_record.specs.Kinds.{is_power}
 use Rattle.pm_apply.specs.Plan.{command, due, is_fed, is_used, power_off, power_on, where_due}
 use Rattle.pm_record.specs.Record.{Kept, kept_value}
 
--- a command that succeeded, and took a unit from a value to another one
+-- a command that succeeded, and took a unit from one value to another
 abbrev pub command_to : Unit → ℕ → ℕ → Done
 command_to unit from value = record { command = command unit value; from = from; ok = true }
 
@@ -29,7 +29,7 @@ apart : (from to a b : ℕ) → from ≡ a → to ≡ b → (a ≡ b → ⊥) �
 apart from to a b was is differs same = differs (sym was ∙ (same ∙ is))
 
 module _ (t : Topology) (values : Unit → ℕ) (kept : Kept) where
-  -- the unit is set to the book's value, where the record has another one
+  -- the unit is set to the book's value, if the record has another one
   pub record Sets (x : Unit) (c : Command) : Type 0 where
     pub is : c ≡ command x (values x)
     pub differs : kept_value kept x ≢ values x

@@ -58,7 +58,7 @@ same_along kept answers [] tree = refl
 same_along kept answers (core ∷ cores) tree =
     same_along (part_of kept (first_answers answers) core.after core.outputs).kept (later_answers answers) cores (tree_after_core core tree)
 
--- the first lines of two runs turn alike where all do
+-- the first of two runs' lines turn alike if all do
 taken : (R : Turn → Turn → Type 0) (n : ℕ) (s t : Tree) (xs ys : List ScriptLine) → Both R (turns s xs) (turns t ys)
     → Both R (turns s (take n xs)) (turns t (take n ys))
 taken R zero s t xs ys both = tt

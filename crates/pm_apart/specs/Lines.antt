@@ -1,5 +1,5 @@
--- The text of a run as its lines, each a list of words, and which of them are about a unit: the lines of the commands on it,
--- and its closing line.
+-- The lines of a run's text, each a list of words, and the lines about a unit: those of the commands on it, and its
+-- closing line.
 use Rattle.std.specs.Prelude.{ℕ, ◌+◌, ◌==◌, Bool, false, ◌&&◌, ◌||◌, codes, if◌then◌else◌, List, [], ◌∷◌, ◌++◌, filter, flat_map, map}
 use Rattle.std.specs.Str.{bytes_eq}
 use Rattle.pm_base.specs.declared.events.Event.{Event}
@@ -34,34 +34,34 @@ use Rattle.pm_drive.specs.Text.{notes_of}
 
 -- ---- the lines of a run
 
--- a line of output in a script line of this number
+-- a line of output in the script line with this number
 abbrev pub numbered : ℕ → List Word → List Word
 numbered n words = word.Number n ∷ words
 
--- the lines of a core step in a line of this number: its commands, and what else it tells
+-- the lines of a core step in the script line with this number: its commands, and its other outputs
 abbrev pub given_lines : ℕ → Given → List (List Word)
 given_lines n g = map (numbered n) (output_words g.part.commands (notices_of g.core.outputs) g.part.answer)
 
--- the lines that a line of this number writes itself
+-- the lines of a script line's own notes
 abbrev pub note_lines : ℕ → List Note → List (List Word)
 note_lines n notes = map (λ note. numbered n (note_words note)) notes
 
--- those of a driven line: of its core steps in order, and then its notes
+-- the lines of a driven script line: of its core steps in order, and then of its notes
 abbrev pub driven_lines : ℕ → Driven → List (List Word)
 driven_lines n x = flat_map (given_lines n) x.cores ++ note_lines n (notes_of x)
 
--- those of driven lines, the first of which has this number
+-- the lines of driven script lines, the first of which has this number
 abbrev pub step_lines : ℕ → List Driven → List (List Word)
 step_lines n [] = []
 step_lines n (x ∷ xs) = driven_lines n x ++ step_lines (n + 1) xs
 
--- the closing line of a unit: none where its value in the book and the kept one are 0
+-- the closing line of a unit; none if its value in the book and its kept value are 0
 abbrev pub end_line : Topology → Unit → ℕ → ℕ → List (List Word)
 end_line t unit book kept =
     if (book == 0) && (kept == 0) then []
     else (word.Name (codes "end") ∷ (unit_name t unit ++ numbers (book ∷ kept ∷ []))) ∷ []
 
--- by a book and the kept values
+-- the closing line of a unit, by a book and the kept values
 abbrev pub closing_line : State → Kept → Unit → List (List Word)
 closing_line book kept unit = end_line book.fixed.topology unit (shown unit book) (kept_value kept unit)
 
@@ -73,17 +73,17 @@ closing_line_of c xs unit = closing_line (last_book (load_of c.object c.attached
 abbrev pub end_words : ClockEnd → List Word
 end_words end = word.Name (codes "end") ∷ word.Name (codes "clock") ∷ numbers (end.clock ∷ end.divider ∷ end.index ∷ [])
 
--- those of all clocks that run
+-- the closing lines of all clocks that run
 abbrev pub clock_lines : Tree → List (List Word)
 clock_lines tree = map end_words (ends tree)
 
--- the lines of the closing table after some steps of a run: those of the units, and then those of the clocks
+-- the closing table after some lines of a run: the lines of the units, and then those of the clocks
 abbrev pub table_lines : Setup → List Driven → List (List Word)
 table_lines c xs =
     flat_map (closing_line_of c xs) (units (last_book (load_of c.object c.attached c.topology) xs))
     ++ clock_lines (last_tree (first_tree c) xs)
 
--- all lines of a run that begins with a board, over a device with these answers
+-- all lines of a run that begins with this board, over a device with these answers
 abbrev pub run_lines : Setup → Standing → List (List Bool) → List Event → List (List Word)
 run_lines c board answers events = step_lines 0 (completed_in c board (driven c answers events)) ++ table_lines c (driven c answers events)
 
@@ -113,15 +113,15 @@ abbrev pub number_of : Unit → ℕ
 number_of (Node node) = node.0
 number_of (Line line) = line.0
 
--- a line that begins with these three words is about the unit: it follows the number of a script line and is of a command on it,
--- or it is its closing line
+-- three words with which a line about the unit begins: of a command on it, behind the number of the script line, or
+-- of its closing line
 abbrev pub begins_about : Unit → Word → Word → Word → Bool
 begins_about unit (word.Number n) name number = is_command unit name && is_number (number_of unit) number
 begins_about unit (word.Name first) name number =
     bytes_eq first (codes "end") && (is_named unit name && is_number (number_of unit) number)
 begins_about unit _ name number = false
 
--- the line of these words is
+-- the line of these words is about the unit
 abbrev pub is_about : Unit → List Word → Bool
 is_about unit [] = false
 is_about unit (first ∷ []) = false
@@ -141,7 +141,7 @@ commands_of given = flat_map (λ (g : Given). g.part.commands) given
 abbrev pub commands_on : Unit → Driven → List Done
 commands_on unit x = filter (is_on unit) (commands_of x.cores)
 
--- their lines, the first of which has this number
+-- the lines of the commands on a unit, in driven script lines of which the first has this number
 abbrev pub set_lines : Unit → ℕ → List Driven → List (List Word)
 set_lines unit n [] = []
 set_lines unit n (x ∷ xs) = map (λ d. numbered n (step_words (told.Command d))) (commands_on unit x) ++ set_lines unit (n + 1) xs

@@ -1,4 +1,4 @@
-//! Laws of the lines of two runs, one of which is without the messages of a master.
+//! Laws of the output lines of a run, beside those of the run without the messages of a master.
 
 ghost use Rattle.std.specs.Prelude.{◌≡◌, ℕ, Bool, true, List, [], ◌++◌, filter, map, Option};
 ghost use Rattle.std.specs.List.{concat};
@@ -26,9 +26,10 @@ use pm_record::{KeptValue, at_zero_is_a_record};
 use pm_run::books_of_a_run;
 use pm_topology::{unit_maps, units_stand_in_order};
 
-/// The text of a run is that of its lines, one after another, and so is the text of some of its steps. Of the lines of a
-/// run's steps those about a unit are exactly those of the commands on it, each with the number of its step; and of all
-/// its lines those about a unit of the chip are these and then its closing line.
+/// The text of a run is its lines, one after another, and so is the text of its script lines alone. The lines about a
+/// unit, among those of the script lines, are exactly the lines of the commands on it, each with the number of its
+/// script line. Among all lines of a run they are these, and then the closing line of the unit, which the chip has to
+/// have.
 pub fn texts_are_lines()
     ensures steps { (n : ℕ) (xs : List Driven) → concat (texts n xs) ≡ concat (map line_text (step_lines n xs)) }
     ensures run { (c : Setup) (board : Standing) (answers : List (List Bool)) (events : List Event)
@@ -45,11 +46,10 @@ pub fn texts_are_lines()
     units_stand_in_order();
 }
 
-/// Over a device that never fails, nothing that a master sends or puts into its box changes what is written about a unit
-/// beyond its reach: a slave, a power node, a reset line, or a processor of a master beyond or of nobody. Step by step the
-/// same commands are given on the unit, with the same values before them, as in the run without the messages of the master;
-/// its closing line is the same; and so of all lines of the run those about the unit, whatever modules and timed tasks the
-/// two runs begin with.
+/// Over a device that never fails, the messages of a master change no line about a unit beyond its reach. Such a unit
+/// is a slave, a power node, a reset line, or a processor of a master beyond or of no master. In the run without
+/// these messages, each script line gives the same commands on the unit, with the same values before them, and its
+/// closing line is the same. The modules and timed tasks at the start of the two runs make no difference.
 pub fn lines_stay_apart()
     ensures commands { (c : Setup) (m : NodeId) (events : List Event) (unit : Unit) → AreObjects (fixed_of c)
         → IsWellFormed c.topology
@@ -74,9 +74,9 @@ pub fn lines_stay_apart()
     unit_maps::<KeptValue>();
 }
 
-/// Over a device that was driven through a run under its own answers and reported no failure, the lines about a unit
-/// beyond the reach of a master, of the whole run and of its steps alone, are those of the run without the messages of
-/// the master.
+/// Over a real device the lines about a unit beyond the reach of a master are those of the run without its messages,
+/// if the device was driven through the run and reported no failure. It is so for the whole run, and for its script
+/// lines up to a cut.
 pub fn driven_lines_stay_apart<D: Device>()
     ensures steps { (c : Setup) (events : List Event) (answers : List (List Bool)) (cut : Option ℕ) (old new : D)
         → AreObjects (fixed_of c) → IsWellFormed c.topology
@@ -92,11 +92,11 @@ pub fn driven_lines_stay_apart<D: Device>()
     lines_stay_apart();
 }
 
-/// A device that was driven through a run keeps apart what is beyond the reach of each master: the text is that of its
-/// lines, of which those about a unit beyond are those of the run without the messages of the master, where the device
-/// reported no failure. Whatever it refused, beyond the reach the books of the run are as in that one, and so are the lines
-/// of starts, drops and callbacks, those of clocks, those of the full boxes of other masters, and those of timed tasks. The
-/// same of the script lines of the run alone, up to where the text breaks off.
+/// A device that was driven through a run keeps apart what is beyond the reach of each master. The text is that of
+/// its lines. If the device reported no failure, the lines about units beyond are those of the run without the
+/// messages of the master. Whatever it refused, the books are alike beyond the reach, and so are the lines of starts,
+/// drops and callbacks, of clocks, of full boxes of other masters, and of timed tasks. It is so for the whole run,
+/// and for its script lines up to a cut.
 pub fn driven_runs_keep_apart<D: Device>()
     ensures run { (c : Setup) (events : List Event) (answers : List (List Bool)) (old new : D)
         → AreObjects (fixed_of c) → IsWellFormed c.topology

@@ -1,4 +1,4 @@
-//! Beyond the reach of a master a device is driven the same way without its messages.
+//! The output beyond the reach of a master doesn't depend on its messages.
 #![tactic(auto)]
 
 mod laws;

@@ -1,4 +1,4 @@
--- The paths that were found lead where the reach is, and bring in what it does.
+-- The found paths lead to the masters of the reach, and bring in its units.
 use Rattle.std.proofs.Common.{◌≡◌, ℕ, ◌==◌, Bool, true, false, Option, Some, None, List, slice_get, is_some, refl, ap, sym, subst, ◌∙◌}
 use Rattle.std.specs.List.{list_any}
 use Rattle.std.proofs.lemmas.Bool.{eqb-true}
@@ -24,7 +24,7 @@ same_test false false there back = refl
 abbrev ends_at : ℕ → Route → Bool
 ends_at place route = route.end == place
 
--- the master at its end brings in the unit
+-- the master at the path's end brings in the unit
 abbrev brings_at : List Object → Topology → MemberKind → Unit → Route → Bool
 brings_at objects t kind unit route = is_some (brings objects t kind unit route.end)
 
@@ -60,13 +60,13 @@ module _ (tests : ReachTests) (objects : List Object) (t : Topology) (from : ℕ
       let there : is_some (brings objects t kind unit within.0) ≡ true = ap is_some within.3 in
       present_from (brings_at objects t kind unit) routes found.0 found.1 found.2 (ap (λ a. is_some (brings objects t kind unit a)) found.3 ∙ there))
 
--- a path was found to the master at this place exactly where one leads there
+-- a path to the master at this place was found exactly if one leads there
 pub reaches_by : ReachTests → (objects : List Object) (t : Topology) (from : Option ℕ) (routes : List Route) (place : ℕ) → ArePaths objects t from routes
     → list_any (ends_at place) routes ≡ reaches objects t from place
 reaches_by tests objects t None routes place are = ap (list_any (ends_at place)) are
 reaches_by tests objects t (Some from) routes place are = reached tests objects t from routes are place
 
--- and a master at the end of one brings in the unit exactly where it is brought in
+-- a master at the end of a found path brings in the unit exactly if it is brought in
 pub brings_by : ReachTests → (objects : List Object) (t : Topology) (from : Option ℕ) (routes : List Route) (kind : MemberKind) (unit : Unit) → ArePaths objects t from routes
     → list_any (brings_at objects t kind unit) routes ≡ brings_in objects t from kind unit
 brings_by tests objects t None routes kind unit are = ap (list_any (brings_at objects t kind unit)) are

@@ -1,4 +1,4 @@
-//! What is beyond the border of a reach, by the paths that lead from its master.
+//! The border of a master's reach, by the paths that lead from the master.
 
 ghost use Rattle.std.specs.Prelude.{◌≡◌, ◌<◌, ◌==◌, ℕ, Bool, IfOk, IfSome, List, Option, is_some, length};
 ghost use Rattle.std.specs.List.{list_any};
@@ -24,7 +24,7 @@ use pm_reach::{MemberKind, reach_is_decided};
 use pm_topology::{Kind, Topology};
 use std::alloc::Global;
 
-/// The place of a configured master.
+/// The place of a configured master; None for another number.
 pub(crate) fn place_of(object: &Object, m: NodeId) -> Option<usize>
     ensures { result ≡ place_of object.now m }
 {
@@ -35,7 +35,8 @@ pub(crate) fn place_of(object: &Object, m: NodeId) -> Option<usize>
         .position(|master| master.node == m.0)
 }
 
-/// The paths that lead from the master at a place, by what at least one of the objects permits: none if there is no place.
+/// The paths from the master at a place, over the permissions of at least one of the objects. Without a place there
+/// are none.
 ///
 /// # Errors
 ///
@@ -55,14 +56,14 @@ pub(crate) fn paths_from(
     }
 }
 
-/// Whether one of the paths ends at a place.
+/// Whether one of the paths ends at the master at this place.
 fn end_at(routes: &[Route], place: usize) -> bool
     ensures { result ≡ list_any (λ route. route.end == place) routes.now }
 {
     routes.iter().any(|route| route.end == place)
 }
 
-/// Whether a path leads to the master at a place.
+/// Whether a path leads to the master at a place. The paths have to be those that `paths_from` finds.
 fn reaches(routes: &[Route], place: usize) -> bool
     ensures { (objects : List Object) (t : Topology) (from : Option ℕ) → ArePaths objects t from routes.now
         → result ≡ reaches objects t from place }
@@ -71,7 +72,7 @@ fn reaches(routes: &[Route], place: usize) -> bool
     end_at(routes, place)
 }
 
-/// Whether a master at the end of one of the paths brings in a unit as a member of a kind.
+/// Whether a master at the end of one of the paths brings in a unit as a member of this kind.
 fn bring_in(
     objects: &[Object],
     t: &Topology,
@@ -84,7 +85,7 @@ fn bring_in(
     routes.iter().any(|route| brings(objects, t, kind, unit, route.end).is_some())
 }
 
-/// Whether a master within brings in a unit as a member of a kind.
+/// Whether a unit is within as a member of this kind. The paths have to be those that `paths_from` finds.
 fn brings_in(
     objects: &[Object],
     t: &Topology,
@@ -99,7 +100,7 @@ fn brings_in(
     bring_in(objects, t, routes, kind, unit)
 }
 
-/// Whether no path ends at the master at a place.
+/// Whether the master at a place is beyond: no path ends there.
 fn master_beyond(objects: &[Object], routes: &[Route], place: usize) -> bool
     ensures { (t : Topology) (from : Option ℕ) → ArePaths objects.now t from routes.now
         → result ≡ master_beyond objects.now t from place }
@@ -128,7 +129,8 @@ fn owner_at(object: &Object, t: &Topology, p: usize) -> Option<usize>
     }
 }
 
-/// Whether the unit of a kind and place is beyond, or there is none: a processor is where its owner is, by the loaded object.
+/// Whether the unit of this kind and place is beyond, or there is none. A processor is beyond if its owner is; the
+/// loaded object says who that is.
 fn unit_beyond(
     loaded: &Object,
     objects: &[Object],
@@ -147,7 +149,7 @@ fn unit_beyond(
     }
 }
 
-/// Whether the slave at a place isn't brought in, or there is none.
+/// Whether the slave at a place is beyond, or there is none.
 fn slave_beyond(objects: &[Object], t: &Topology, routes: &[Route], s: usize) -> bool
     ensures { (from : Option ℕ) (nodes : ℕ → Bool) → ArePaths objects.now t.now from routes.now
         → result ≡ (unit_border objects.now t.now from nodes).slave s }
@@ -164,7 +166,7 @@ fn slave_beyond(objects: &[Object], t: &Topology, routes: &[Route], s: usize) ->
     }
 }
 
-/// Whether the power node at a place isn't brought in, or there is none.
+/// Whether the power node at a place is beyond, or there is none.
 fn power_beyond(objects: &[Object], t: &Topology, routes: &[Route], w: usize) -> bool
     ensures { (from : Option ℕ) (nodes : ℕ → Bool) → ArePaths objects.now t.now from routes.now
         → result ≡ (unit_border objects.now t.now from nodes).power w }
@@ -181,7 +183,8 @@ fn power_beyond(objects: &[Object], t: &Topology, routes: &[Route], w: usize) ->
     }
 }
 
-/// Whether the unit of a number is beyond, and the configured master of that number too.
+/// Whether the number of a node is beyond: its unit is, and so is the configured master of this number, if there is
+/// one.
 fn node_beyond(
     loaded: &Object,
     objects: &[Object],
@@ -196,7 +199,7 @@ fn node_beyond(
         && none_within(objects, routes, place_of(loaded, node))
 }
 
-/// Whether the reset line of a number isn't brought in, or there is none.
+/// Whether a reset line is beyond, or the chip has none of this number.
 fn line_beyond(objects: &[Object], t: &Topology, routes: &[Route], line: LineId) -> bool
     ensures { (from : Option ℕ) (nodes : ℕ → Bool) → ArePaths objects.now t.now from routes.now
         → result ≡ line_beyond (unit_border objects.now t.now from nodes) (line_place t.now.lines line.0) }
@@ -207,7 +210,7 @@ fn line_beyond(objects: &[Object], t: &Topology, routes: &[Route], line: LineId)
     }
 }
 
-/// The place of a reset line.
+/// The place of a reset line; None if the chip doesn't have it.
 fn line_place(t: &Topology, line: LineId) -> Option<usize>
     ensures { result ≡ line_place t.now.lines line.0 }
 {
@@ -217,7 +220,7 @@ fn line_place(t: &Topology, line: LineId) -> Option<usize>
         .position(|other| other.line.0 == line.0)
 }
 
-/// Whether the reset line at a place isn't brought in, or there is none.
+/// Whether the reset line at a place is beyond, or there is none.
 fn reset_beyond(objects: &[Object], t: &Topology, routes: &[Route], l: usize) -> bool
     ensures { (from : Option ℕ) (nodes : ℕ → Bool) → ArePaths objects.now t.now from routes.now
         → result ≡ (unit_border objects.now t.now from nodes).line l }
@@ -228,7 +231,7 @@ fn reset_beyond(objects: &[Object], t: &Topology, routes: &[Route], l: usize) ->
     }
 }
 
-/// Whether a node that a call names is beyond, or the reset line whose value it asks for.
+/// Whether a node that a call names, or the reset line whose value it asks for, is beyond.
 fn named_beyond(
     loaded: &Object,
     objects: &[Object],
@@ -246,7 +249,7 @@ fn named_beyond(
     }
 }
 
-/// Whether each node that a call names is beyond, and the reset line whose value it asks for.
+/// Whether all that a call names is beyond: its nodes, and the reset line whose value it asks for.
 pub(crate) fn names_beyond(
     loaded: &Object,
     objects: &[Object],

@@ -1,4 +1,4 @@
-//! Whether a message is beyond the reach of a master, as an answer.
+//! A test whether a message is beyond the reach of a master, for clients that compare runs.
 #![tactic(auto)]
 
 mod border;

@@ -15,8 +15,12 @@ use pm_object::Object;
 use pm_topology::Topology;
 use std::alloc::Global;
 
-/// Whether a message of a sender is beyond the reach of a master, by the loaded object, which is the first of those
-/// that may be in force.
+/// Whether a message of a sender is beyond the reach of the master `of`. `loaded` is the first of the objects, which
+/// may each be in force; it says which number is which master.
+///
+/// # Errors
+///
+/// `NoMemory` if there is not enough memory.
 fn is_beyond_by(
     alloc: Global,
     loaded: &Object,
@@ -37,10 +41,10 @@ fn is_beyond_by(
     Ok(sent && names_beyond(loaded, objects, t, routes, decode_call(message)))
 }
 
-/// Whether a message of `sender` is beyond the reach of the master `of` by what at least one of the objects of a run permits,
-/// of which the first is the loaded one: the sender is beyond, or is no configured master, and so is each node that the
-/// message names, or the reset line whose value it asks for. Such a message is answered the same whatever messages `of`
-/// sends. All is beyond the reach of a master that isn't configured.
+/// Whether a message of `sender` is beyond the reach of the master `of`, by the permissions of at least one object of
+/// the run. The first of the objects is the loaded one. The sender has to be beyond, or not configured, and so has
+/// each node that the message names, or the reset line whose value it asks for. Such a message is answered alike
+/// whatever `of` sends. If `of` isn't configured, every message is beyond.
 ///
 /// # Errors
 ///

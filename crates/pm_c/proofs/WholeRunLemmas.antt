@@ -56,7 +56,7 @@ module _ {I O D : Type 0} (i : Inputs.Ghosts I) (o : Sink.Ghosts O) (d : Device.
       (subst (λ (b : Standing). IsRun i o d object chip b is name w w') with_none
       (subst (λ (t : Topology). IsRun i o d object t board is name w w') over run))
 
--- what the input holds decides how a run ends
+-- the content of the input decides the exit of a run
 pub ends_by : {X : Type 0} (held : OneContent) (script : List ℕ) (result : Exit)
     → held ≡ record { bytes = script; place = None; calls = [] }
     → (result ≡ exit_due held.bytes) ⊎ ((result ≡ exit.Memory) ⊎ ((result ≡ exit.WriteFault) × X)) → Ends script result
@@ -64,7 +64,7 @@ ends_by held script result is (inl due) = inl (due ∙ ap (λ (h : OneContent). 
 ends_by held script result is (inr (inl memory)) = inr (inl memory)
 ends_by held script result is (inr (inr write)) = inr (inr write.0)
 
--- an exit that neither want of memory nor want of room has was due
+-- an exit that comes neither of want of memory nor of want of room was due
 pub line_due : (script : List ℕ) (result : Exit) → Ends script result → result ≡ exit.BadLine → exit_due script ≡ exit.BadLine
 line_due script result (inl due) is = sym due ∙ is
 line_due script result (inr (inl memory)) is = cc

@@ -1,4 +1,4 @@
--- What a whole run from C did.
+-- A whole run from C.
 use Rattle.std.specs.Prelude.{◌≡◌, ◌⊎◌, ℕ, Bool, List, [], Some}
 use Rattle.pm_base.specs.declared.errors.Exit.{Exit}
 use Rattle.pm_base.specs.declared.errors.Exit.TheVariants as exit
@@ -23,8 +23,8 @@ use Rattle.pm_drive.specs.Drove.{Drove}
 abbrev pub no_board : Standing
 no_board = record { modules = []; tasks = empty 0 }
 
--- these bytes are a script, and this is the whole text of the run of the script over an object and the topology of the
--- chip, through which a new device was driven
+-- these bytes are a script, and this is the whole text of its run over an object and the chip's topology; a new
+-- device was driven through that run
 pub record WasRunOver {D : Type 0} (d : Device.Ghosts D) (object : Object) (script_bytes text : List ℕ) : Type 0 where
   pub events : List Event
   pub answers : List (List Bool)
@@ -35,15 +35,15 @@ pub record WasRunOver {D : Type 0} (d : Device.Ghosts D) (object : Object) (scri
   pub drove : Drove d (setup_for object chip events) (script_driven object chip answers events) before after
   pub whole : text ≡ script_text object chip no_board answers events
 
--- that run, of the object of these bytes
+-- so for the object of these bytes
 abbrev pub WasRun : {D : Type 0} → Device.Ghosts D → List ℕ → List ℕ → List ℕ → Type 0
 WasRun d object_bytes script_bytes text = (object : Object) × Reads object_bytes object × WasRunOver d object script_bytes text
 
--- how a run of the script of these bytes is to end: with Done, or with the exit of the fault at which the script stops
+-- the exit that is due for the script of these bytes: Done, or that of the fault at which the script stops
 abbrev pub exit_due : List ℕ → Exit
 exit_due script_bytes =
     script_exit (script_or_fault (script_of (prefix_of script_limit (Some (file_with script_bytes)) always_room)))
 
--- a run ends so, or for want of memory, or because its text has no room
+-- a run ends with the due exit, or with Memory, or with WriteFault since its text has no room
 abbrev pub Ends : List ℕ → Exit → Type 0
 Ends script_bytes result = (result ≡ exit_due script_bytes) ⊎ ((result ≡ exit.Memory) ⊎ (result ≡ exit.WriteFault))

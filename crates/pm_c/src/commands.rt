@@ -1,4 +1,4 @@
-//! The commands of a step are given out one by one, and each is answered.
+//! Giving out the commands of a step one by one, and taking the device's answers.
 
 ghost use Rattle.std.specs.Prelude.{◌≡◌, ◌<◌, [], ◌∷◌, None};
 ghost use Rattle.pm_controller.specs.Steps.{TakesAnswer};
@@ -9,8 +9,11 @@ use pm_handle::commands::{UnitCommand, command_done, next_command};
 use pm_slot::Slot;
 use std::alloc::Global;
 
-/// The command that waits for its answer: the next one of the step, and the same one until it is answered. Answers
-/// `DONE`; `NO_COMMAND` if the step is over; `NO_MEMORY`; and `CLOSED`. Nothing changes.
+/// Writes into `command` the command that waits for its answer. It stays the same one until it is answered. Nothing
+/// changes.
+///
+/// Returns `DONE`; `NO_COMMAND` if the step is over; `NO_MEMORY` for want of memory; and `CLOSED` if the handle holds
+/// no controller.
 #[unsafe(no_mangle)]
 pub extern "C" fn pmu_next(alloc: Global, pmu: &mut Slot, command: &mut UnitCommand) -> u32
     ensures kept { inside pmu.new.held ≡ inside pmu.old.held }
@@ -23,8 +26,11 @@ pub extern "C" fn pmu_next(alloc: Global, pmu: &mut Slot, command: &mut UnitComm
     next_command(alloc, pmu, command)
 }
 
-/// What became of the command that waits: the device took it, or failed it. Then the next one waits. Answers `DONE`;
-/// `NO_COMMAND` if none waits; `NO_MEMORY`; and `CLOSED`. But for `DONE` nothing changes.
+/// Takes the device's answer to the command that waits: `ok` if the device took it. The next command of the step then
+/// waits, if there is one.
+///
+/// Returns `DONE`; `NO_COMMAND` if no command waits; `NO_MEMORY` for want of memory; and `CLOSED` if the handle holds
+/// no controller. Only with `DONE` anything changes.
 #[unsafe(no_mangle)]
 pub extern "C" fn pmu_done(alloc: Global, pmu: &mut Slot, ok: bool) -> u32
     ensures done { result ≡ 0 → Leads (TakesAnswer ok) pmu.old.held pmu.new.held }

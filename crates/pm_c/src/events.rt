@@ -1,6 +1,6 @@
-//! Events: a message of a master, a boot, a wait, an interrupt, and time that passes. Each begins a step. All of them
-//! answer `DONE`; `COMMAND_LEFT` while a command of the step before waits; `NO_MEMORY`; and `CLOSED`. But for `DONE` nothing
-//! changes.
+//! Events: a message, a boot, a wait, interrupts, and passing time. Each of these calls begins a step, and returns
+//! `DONE`; `COMMAND_LEFT` if a command of the step before waits for its answer; `NO_MEMORY` for want of memory; and
+//! `CLOSED` if the handle holds no controller. Only with `DONE` anything changes.
 
 ghost use Rattle.std.specs.Prelude.{◌≡◌, ◌<◌, [], ◌∷◌, None};
 ghost use Rattle.pm_base.specs.declared.events.Event.TheVariants as events;
@@ -13,7 +13,7 @@ use pm_handle::events::tell;
 use pm_slot::Slot;
 use std::alloc::Global;
 
-/// A message of a master.
+/// A message of a master, with its API word and five arguments.
 #[unsafe(no_mangle)]
 pub extern "C" fn pmu_ipi(
     alloc: Global,
@@ -73,7 +73,7 @@ pub extern "C" fn pmu_wfi(alloc: Global, pmu: &mut Slot, proc: u32) -> u32
     tell(alloc, pmu, Event::Wfi { proc })
 }
 
-/// An interrupt at a processor itself.
+/// An interrupt of a processor itself.
 #[unsafe(no_mangle)]
 pub extern "C" fn pmu_gic(alloc: Global, pmu: &mut Slot, proc: u32) -> u32
     ensures done { result ≡ 0 → Leads (TakesEvent (events.Gic (record { 0 = proc }))) pmu.old.held pmu.new.held }
@@ -101,7 +101,7 @@ pub extern "C" fn pmu_irq(alloc: Global, pmu: &mut Slot, slave: u32) -> u32
     tell(alloc, pmu, Event::Irq { slave })
 }
 
-/// Units of time pass.
+/// Time passes, in units of the script's time.
 #[unsafe(no_mangle)]
 pub extern "C" fn pmu_tick(alloc: Global, pmu: &mut Slot, count: u32) -> u32
     ensures done { result ≡ 0 → Leads (TakesEvent (events.Tick count)) pmu.old.held pmu.new.held }

@@ -1,11 +1,11 @@
-//! How a run ends, as a number of `include/pmu.h`.
+//! The exit of a run as a number of `include/pmu.h`.
 
 ghost use Rattle.std.specs.Prelude.{◌≡◌, ◌≢◌};
 
 use pm_base::Exit;
 use pm_handle::answers::{DONE, NO_MEMORY, NO_ROOM};
 
-/// The number of an exit of a run. That of bad words, of a bad object and of a bad text is 1: a run has none of them.
+/// The number of an exit of a run. It is 1 for bad words, a bad object and a bad text, which no run has.
 pub fn number_of(exit: Exit) -> u32
     ensures done { result ≡ 0 → exit ≡ Exit.Done }
     ensures line { result ≡ 3 → exit ≡ Exit.BadLine }

@@ -1,4 +1,4 @@
-//! A handle is opened and ended.
+//! Opening and ending a handle.
 
 ghost use Rattle.std.specs.Prelude.{◌≡◌, [], ◌∷◌};
 ghost use Rattle.pm_object.specs.declared.object.Object.{Object};
@@ -10,8 +10,10 @@ use pm_handle::opening::open;
 use pm_slot::Slot;
 use std::alloc::Global;
 
-/// Loads a controller for a configuration object, over the topology of the chip, and hands its handle out. Answers
-/// `DONE`, `BAD_OBJECT` and `NO_MEMORY`.
+/// Loads a controller for a configuration object, over the topology of the chip, and stores its handle in `handle`.
+/// The first step, the load, begins.
+///
+/// Returns `DONE`; `BAD_OBJECT` if the bytes are no object; and `NO_MEMORY` for want of memory.
 #[unsafe(no_mangle)]
 pub extern "C" fn pmu_open(alloc: Global, object: &[u8], handle: &mut *mut Slot) -> u32
     ensures bad { result ≡ 2 → (o : Object) → Reads object.now o → ⊥ }
@@ -30,7 +32,7 @@ pub extern "C" fn pmu_open(alloc: Global, object: &[u8], handle: &mut *mut Slot)
     }
 }
 
-/// Ends a controller, and gives its memory back. The block that the handle points to is the caller's to free.
+/// Ends a controller and frees its memory. The block to which the handle points is the caller's to free.
 #[unsafe(no_mangle)]
 pub extern "C" fn pmu_end(slot: Slot) {
     drop(slot);

@@ -1,4 +1,4 @@
-//! What is read of a controller.
+//! Reads of a controller. None changes it.
 
 ghost use Rattle.std.specs.Prelude.{◌≡◌, ◌<◌, [], ◌∷◌, Some, None, option_map};
 ghost use Rattle.pm_controller.specs.Controls.{is_settled, mode_of, value_of};
@@ -12,8 +12,8 @@ use pm_handle::answers::{CLOSED, DONE, NO_MEMORY, NO_NODE};
 use pm_slot::{Held, Slot};
 use std::alloc::Global;
 
-/// Whether the step is over, and the device took the book's value for each unit of the chip. Answers `DONE`, `NO_MEMORY`
-/// and `CLOSED`. Nothing changes.
+/// Stores in `settled` whether the step is over and the device took the book's value for each unit. Returns `DONE`,
+/// `NO_MEMORY` and `CLOSED`.
 pub fn read_settled(alloc: Global, pmu: &mut Slot, settled: &mut bool) -> u32
     ensures kept { inside pmu.new.held ≡ inside pmu.old.held }
     ensures done { result ≡ 0 → Holds (λ c. settled.new ≡ is_settled c) pmu.old.held }
@@ -29,7 +29,7 @@ pub fn read_settled(alloc: Global, pmu: &mut Slot, settled: &mut bool) -> u32
     code
 }
 
-/// Leaves whether the device took the book's value for each unit. CLOSED if there is no controller.
+/// As `read_settled`, for the content of a handle. Returns `DONE`, and `CLOSED` without a controller.
 fn settled_held(held: &Held, settled: &mut bool) -> u32
     ensures done { result ≡ 0 → Holds (λ c. settled.new ≡ is_settled c) held.now }
     ensures untold { 0 < result → settled.new ≡ settled.old }
@@ -43,8 +43,8 @@ fn settled_held(held: &Held, settled: &mut bool) -> u32
     DONE
 }
 
-/// The value of a node in the book. Answers `DONE`; `NO_NODE` if the chip has no such node; `NO_MEMORY`; and `CLOSED`.
-/// Nothing changes.
+/// Stores in `value` the value of a node in the book. Returns `DONE`; `NO_NODE` if the chip has no such node;
+/// `NO_MEMORY`; and `CLOSED`.
 pub fn read_value(alloc: Global, pmu: &mut Slot, node: NodeId, value: &mut u32) -> u32
     ensures kept { inside pmu.new.held ≡ inside pmu.old.held }
     ensures done { result ≡ 0 → Holds (λ c. value_of node c ≡ Some value.new) pmu.old.held }
@@ -61,7 +61,7 @@ pub fn read_value(alloc: Global, pmu: &mut Slot, node: NodeId, value: &mut u32) 
     code
 }
 
-/// Leaves the book's value of a node. NO_NODE if the chip has no such node, CLOSED if there is no controller.
+/// As `read_value`, for the content of a handle. Returns `DONE`; `NO_NODE`; and `CLOSED` without a controller.
 fn value_held(held: &Held, node: NodeId, value: &mut u32) -> u32
     ensures done { result ≡ 0 → Holds (λ c. value_of node c ≡ Some value.new) held.now }
     ensures unknown { result ≡ 18 → Holds (λ c. value_of node c ≡ None) held.now }
@@ -81,7 +81,8 @@ fn value_held(held: &Held, node: NodeId, value: &mut u32) -> u32
     }
 }
 
-/// The mode of a processor: 0 off, 1 active, 2 asleep, 3 suspending. Answers as `read_value` does.
+/// Stores in `mode` the mode of a processor: 0 off, 1 active, 2 asleep, 3 suspending. Returns `DONE`; `NO_NODE` if
+/// the chip has no such processor; `NO_MEMORY`; and `CLOSED`.
 pub fn read_mode(alloc: Global, pmu: &mut Slot, proc: NodeId, mode: &mut u32) -> u32
     ensures kept { inside pmu.new.held ≡ inside pmu.old.held }
     ensures done { result ≡ 0 → Holds (λ c. option_map mode_number (mode_of proc c) ≡ Some mode.new) pmu.old.held }
@@ -98,7 +99,7 @@ pub fn read_mode(alloc: Global, pmu: &mut Slot, proc: NodeId, mode: &mut u32) ->
     code
 }
 
-/// Leaves the mode of a processor. NO_NODE if the chip has no such processor, CLOSED if there is no controller.
+/// As `read_mode`, for the content of a handle. Returns `DONE`; `NO_NODE`; and `CLOSED` without a controller.
 fn mode_held(held: &Held, proc: NodeId, mode: &mut u32) -> u32
     ensures done { result ≡ 0 → Holds (λ c. option_map mode_number (mode_of proc c) ≡ Some mode.new) held.now }
     ensures unknown { result ≡ 18 → Holds (λ c. mode_of proc c ≡ None) held.now }
@@ -118,7 +119,7 @@ fn mode_held(held: &Held, proc: NodeId, mode: &mut u32) -> u32
     }
 }
 
-/// The number of a mode in `pmu.h` (as in the closing table of a run).
+/// The number of a mode in `pmu.h`, as in the closing table of a run.
 fn mode_number(mode: Mode) -> u32
     ensures { result ≡ mode_number mode }
 {
@@ -130,8 +131,8 @@ fn mode_number(mode: Mode) -> u32
     }
 }
 
-/// What a configured master is told of a node: its state, and of a slave the capabilities that the master requires of it, and
-/// who uses it.
+/// The status of a node for a configured master: its operating point, and of a slave the capabilities that the master
+/// requires now, and who uses it (0 nobody, 1 only this master, 2 only others, 3 both).
 #[repr(C)]
 #[derive(Clone, Copy)]
 pub struct StatusWords {
@@ -140,8 +141,8 @@ pub struct StatusWords {
     pub usage: u32,
 }
 
-/// The status of a node, as GET_NODE_STATUS tells it to a master. Answers `DONE`; `NO_NODE` if the chip has no such node or
-/// the object no such master; `NO_MEMORY`; and `CLOSED`. Nothing changes.
+/// Stores in `status` the status of a node for a master, as PM_GET_NODE_STATUS tells it. Returns `DONE`; `NO_NODE` if
+/// the chip has no such node or the object no such master; `NO_MEMORY`; and `CLOSED`.
 pub fn read_status(
     alloc: Global,
     pmu: &mut Slot,
@@ -164,8 +165,7 @@ pub fn read_status(
     code
 }
 
-/// Leaves what GET_NODE_STATUS tells a master of a node. NO_NODE if the chip has no such node or the object no such
-/// master, CLOSED if there is no controller.
+/// As `read_status`, for the content of a handle. Returns `DONE`; `NO_NODE`; and `CLOSED` without a controller.
 fn status_held(held: &Held, master: NodeId, node: NodeId, status: &mut StatusWords) -> u32
     ensures done { result ≡ 0 → Holds (IsStatus master node status.new) held.now }
     ensures unknown { result ≡ 18 → Holds (HasNoStatus master node) held.now }
@@ -185,7 +185,7 @@ fn status_held(held: &Held, master: NodeId, node: NodeId, status: &mut StatusWor
     }
 }
 
-/// The words of a node's status: state or value, own requirement, usage (UG1200, PM_GET_NODE_STATUS).
+/// A status in three words: operating point, own requirement, usage (UG1200, PM_GET_NODE_STATUS).
 fn status_words(status: NodeStatus) -> StatusWords
     ensures { result ≡ status_words status }
 {
@@ -196,8 +196,8 @@ fn status_words(status: NodeStatus) -> StatusWords
     }
 }
 
-/// Whether a message of `sender` is beyond the reach of the master `of`. Answers `DONE`, `NO_MEMORY` and `CLOSED`. Nothing
-/// changes.
+/// Stores in `beyond` whether a message of `sender` is beyond the reach of the master `of`. Returns `DONE`,
+/// `NO_MEMORY` and `CLOSED`.
 pub fn read_beyond(
     alloc: Global,
     pmu: &mut Slot,
@@ -220,8 +220,7 @@ pub fn read_beyond(
     code
 }
 
-/// Leaves whether a message of `sender` is beyond the reach of the master `of`. Its answers are those of
-/// `pmu_is_beyond`.
+/// As `read_beyond`, for the content of a handle. Returns `DONE`; `NO_MEMORY`; and `CLOSED` without a controller.
 fn beyond_held(
     alloc: Global,
     held: &Held,

@@ -1,5 +1,5 @@
-//! What C calls: a whole run in one call, and a controller behind a handle. `include/pmu.h` declares it. Each export calls
-//! the function that does its work, and says of it again what that says.
+//! The library for C: a whole run in one call, and a controller behind a handle. `include/pmu.h` declares it. Each
+//! export calls the function that does its work, and has that function's contract.
 #![tactic(auto)]
 
 pub mod commands;

@@ -1,5 +1,5 @@
-//! Reading from a controller: the lines of its last step, and what its book says. Each call leaves the controller as it
-//! is. What it reads is written only if it answers `DONE`, but for the text of `pmu_text`.
+//! Reading from a controller: the lines of its last step, and its book. No call changes the controller. The result is
+//! stored only with `DONE`; `pmu_text` writes with `NO_ROOM` too.
 
 ghost use Rattle.std.specs.Prelude.{◌≡◌, ◌≤◌, ◌<◌, [], ◌∷◌, Some, None, take, length, option_map};
 ghost use Rattle.pm_controller.specs.Controls.{is_settled, mode_of, text_of, value_of};
@@ -15,10 +15,10 @@ use pm_base::{Message, NodeId};
 use pm_slot::Slot;
 use std::alloc::Global;
 
-/// Writes the lines of the last step to the front of `text`, each after this number. `written` is the number of bytes
-/// that were written: 0 unless the answer is `DONE` or `NO_ROOM`. The controller stays as it is.
+/// Writes the lines of the last step to the front of `text`, each with this number in front. `written` is the number
+/// of bytes that were written: 0 unless the call returns `DONE` or `NO_ROOM`.
 ///
-/// Answers `DONE` if all lines were written; `NO_ROOM` if they don't fit: then as much as fits is written;
+/// Returns `DONE` if all lines were written; `NO_ROOM` if they don't fit, and then as much as fits is written;
 /// `COMMAND_LEFT` if the step isn't over, since a command waits for its answer; `NO_MEMORY` for want of memory; and
 /// `CLOSED` if the handle holds no controller.
 #[unsafe(no_mangle)]
@@ -40,10 +40,10 @@ pub extern "C" fn pmu_text(
     write_text(alloc, pmu, number, text, written)
 }
 
-/// Leaves in `settled` whether the last step is over and the value that the device last took for each unit of the chip
-/// is the one in the book.
+/// Stores in `settled` whether the last step is over and the value that the device last took for each unit of the
+/// chip is the one in the book.
 ///
-/// Answers `DONE`; `NO_MEMORY` for want of memory; and `CLOSED` if the handle holds no controller.
+/// Returns `DONE`; `NO_MEMORY` for want of memory; and `CLOSED` if the handle holds no controller.
 #[unsafe(no_mangle)]
 pub extern "C" fn pmu_is_settled(alloc: Global, pmu: &mut Slot, settled: &mut bool) -> u32
     ensures kept { inside pmu.new.held ≡ inside pmu.old.held }
@@ -55,10 +55,10 @@ pub extern "C" fn pmu_is_settled(alloc: Global, pmu: &mut Slot, settled: &mut bo
     read_settled(alloc, pmu, settled)
 }
 
-/// Leaves in `value` the value of a node in the book: the state of a slave; 1 for a power node that is up and for a
-/// processor that is active or suspending, and 0 for any other.
+/// Stores in `value` the value of a node in the book: the state of a slave; 1 for a power node that is up and for a
+/// processor that is active or suspending; and 0 for any other.
 ///
-/// Answers `DONE`; `NO_NODE` if the chip has no such node; `NO_MEMORY` for want of memory; and `CLOSED` if the handle
+/// Returns `DONE`; `NO_NODE` if the chip has no such node; `NO_MEMORY` for want of memory; and `CLOSED` if the handle
 /// holds no controller.
 #[unsafe(no_mangle)]
 pub extern "C" fn pmu_value(alloc: Global, pmu: &mut Slot, node: u32, value: &mut u32) -> u32
@@ -72,10 +72,10 @@ pub extern "C" fn pmu_value(alloc: Global, pmu: &mut Slot, node: u32, value: &mu
     read_value(alloc, pmu, NodeId(node), value)
 }
 
-/// Leaves in `mode` the mode of a processor: 0 off, 1 active, 2 asleep, 3 suspending.
+/// Stores in `mode` the mode of a processor: 0 off, 1 active, 2 asleep, 3 suspending.
 ///
-/// Answers `DONE`; `NO_NODE` if no processor of the chip has this number; `NO_MEMORY` for want of memory; and `CLOSED`
-/// if the handle holds no controller.
+/// Returns `DONE`; `NO_NODE` if no processor of the chip has this number; `NO_MEMORY` for want of memory; and
+/// `CLOSED` if the handle holds no controller.
 #[unsafe(no_mangle)]
 pub extern "C" fn pmu_mode(alloc: Global, pmu: &mut Slot, proc: u32, mode: &mut u32) -> u32
     ensures kept { inside pmu.new.held ≡ inside pmu.old.held }
@@ -89,11 +89,11 @@ pub extern "C" fn pmu_mode(alloc: Global, pmu: &mut Slot, proc: u32, mode: &mut 
     read_mode(alloc, pmu, NodeId(proc), mode)
 }
 
-/// Leaves in `status` what PM_GET_NODE_STATUS (UG1200) would tell a master of a node. It takes no message for it: no
+/// Stores in `status` what PM_GET_NODE_STATUS (UG1200) would tell a master about a node. No message is needed: no
 /// step begins, and the master may be in any mode.
 ///
-/// Answers `DONE`; `NO_NODE` if the chip has no such node or the object no such master; `NO_MEMORY` for want of memory;
-/// and `CLOSED` if the handle holds no controller.
+/// Returns `DONE`; `NO_NODE` if the chip has no such node or the object no such master; `NO_MEMORY` for want of
+/// memory; and `CLOSED` if the handle holds no controller.
 #[unsafe(no_mangle)]
 pub extern "C" fn pmu_node_status(
     alloc: Global,
@@ -114,12 +114,11 @@ pub extern "C" fn pmu_node_status(
     read_status(alloc, pmu, NodeId(master), NodeId(node), status)
 }
 
-/// Leaves in `beyond` whether a message is beyond the reach of the master `of`. It is if two things hold: the master
-/// `sender` is beyond that reach, or is no configured master; and each node that the message names is beyond it, and so
-/// is the reset line if the message asks for the value of one. The message is the call with the number `api`, with its
-/// five arguments.
+/// Stores in `beyond` whether a message is beyond the reach of the master `of`. Two things have to hold. The master
+/// `sender` is beyond that reach, or isn't configured. Each node that the message names is beyond it, and so is the
+/// reset line if the message asks for its value. The message has the API word `api` and five arguments.
 ///
-/// Answers `DONE`; `NO_MEMORY` for want of memory; and `CLOSED` if the handle holds no controller.
+/// Returns `DONE`; `NO_MEMORY` for want of memory; and `CLOSED` if the handle holds no controller.
 #[unsafe(no_mangle)]
 pub extern "C" fn pmu_is_beyond(
     alloc: Global,

@@ -10,14 +10,14 @@ use pm_base::Exit;
 use pm_device::{Device, ModelDevice};
 use std::alloc::Global;
 
-/// Runs the script in the bytes `script` over the configuration object in the bytes `object`, with the topology of the
-/// chip and a new device in memory, and with no modules and no timed tasks. The text of the run goes to the front of
-/// `text`, and `written` is the number of its bytes there.
+/// Runs a script over a configuration object, both given as bytes, with the topology of the chip and a new device in
+/// memory, without modules and timed tasks. The text of the run goes to the front of `text`; `written` is the number
+/// of its bytes.
 ///
-/// Answers 0 (`DONE`) if `text` has the whole text of the run; 2 (`BAD_OBJECT`) if the bytes are no object; 3 if a line
-/// of the script has no meaning; 7 if the script is too large; 6 (`NO_MEMORY`) for want of memory; and 5 (`NO_ROOM`) if
-/// the lines of the run don't fit: then as much as fits is written. With 2, 3 and 7 the text ends with a fault line,
-/// which is cut off if it doesn't fit.
+/// Returns 0 (`DONE`) if `text` has the whole text of the run; 2 (`BAD_OBJECT`) if the bytes are no object; 3 if a
+/// line of the script can't be read; 7 if the script is too large; 6 (`NO_MEMORY`) for want of memory; and 5
+/// (`NO_ROOM`) if the lines of the run don't fit, and then as much as fits is written. With 2, 3 and 7 the text ends
+/// with a fault line, which is cut off if it doesn't fit.
 #[unsafe(no_mangle)]
 pub extern "C" fn pmu_replay(
     alloc: Global,

@@ -1,4 +1,4 @@
-//! Writing the lines of the last step.
+//! Writing the lines of the last step, for `pmu_text`.
 
 ghost use Rattle.std.specs.Prelude.{◌≡◌, ◌≤◌, [], ◌∷◌, None, IfOk, take, length};
 ghost use Rattle.pm_controller.specs.Controls.{text_of};
@@ -12,10 +12,10 @@ use pm_slot::{Held, Slot};
 use pm_trace::TextLine;
 use std::alloc::{AllocError, Global};
 
-/// Writes the lines of the last step to the front of `text`, each after this number. `written` is the number of bytes
-/// that were written: 0 unless the answer is `DONE` or `NO_ROOM`. The controller stays as it is.
+/// Writes the lines of the last step to the front of `text`, each with this number in front. `written` is the number
+/// of bytes that were written: 0 unless the call returns `DONE` or `NO_ROOM`. The controller stays as it is.
 ///
-/// Answers `DONE` if all lines were written; `NO_ROOM` if they don't fit: then as much as fits is written;
+/// Returns `DONE` if all lines were written; `NO_ROOM` if they don't fit, and then as much as fits is written;
 /// `COMMAND_LEFT` if the step isn't over, since a command waits for its answer; `NO_MEMORY` for want of memory; and
 /// `CLOSED` if the handle holds no controller.
 pub fn write_text(
@@ -42,8 +42,8 @@ pub fn write_text(
     code
 }
 
-/// Writes the text of the last step into `text`, each line after `number`, and leaves how many bytes it has. NO_ROOM
-/// if it doesn't fit, COMMAND_LEFT if a command waits, CLOSED if there is no controller.
+/// As `write_text`, for the content of a handle. Returns `DONE`; `NO_ROOM`; `COMMAND_LEFT`; `NO_MEMORY`; and `CLOSED`
+/// without a controller.
 fn write_held(alloc: Global, held: &Held, number: u32, text: &mut [u8], written: &mut usize) -> u32
     requires { written.old ≤ length text.old }
     ensures done { result ≡ 0 → Holds (λ c. take written.new text.new ≡ text_of number c) held.now }
@@ -67,7 +67,7 @@ fn write_held(alloc: Global, held: &Held, number: u32, text: &mut [u8], written:
     if whole { DONE } else { NO_ROOM }
 }
 
-/// The lines of the last step of a controller.
+/// The lines of the last step of a controller, each with this number in front. Fails if there is not enough memory.
 fn lines_of(alloc: Global, controller: &Controller, number: u32) -> Result<Vec<u8>, AllocError>
     ensures { IfOk result (λ lines. lines.items ≡ text_of number controller.now) }
 {

@@ -1,4 +1,4 @@
-//! A whole run.
+//! A whole run in memory, for `pmu_replay`.
 
 ghost use Rattle.std.specs.Prelude.{◌≡◌, ◌≤◌, [], take, length, Ok};
 ghost use Rattle.pm_object.specs.declared.object.Object.{Object};
@@ -19,14 +19,14 @@ use pm_tasks::{Counter, TasksOf};
 use pm_trace::{Fault, refuse};
 use std::alloc::Global;
 
-/// Runs the script in the bytes `script` over the configuration object in the bytes `object`, with the topology of the
-/// chip and a new device in memory, and with no modules and no timed tasks. The text of the run goes to the front of
-/// `text`, and `written` is the number of its bytes there.
+/// Runs a script over a configuration object, both given as bytes, with the topology of the chip and a new device in
+/// memory, without modules and timed tasks. The text of the run goes to the front of `text`; `written` is the number
+/// of its bytes.
 ///
-/// Answers 0 (`DONE`) if `text` has the whole text of the run; 2 (`BAD_OBJECT`) if the bytes are no object; 3 if a line
-/// of the script has no meaning; 7 if the script is too large; 6 (`NO_MEMORY`) for want of memory; and 5 (`NO_ROOM`) if
-/// the lines of the run don't fit: then as much as fits is written. With 2, 3 and 7 the text ends with a fault line,
-/// which is cut off if it doesn't fit.
+/// Returns 0 (`DONE`) if `text` has the whole text of the run; 2 (`BAD_OBJECT`) if the bytes are no object; 3 if a
+/// line of the script can't be read; 7 if the script is too large; 6 (`NO_MEMORY`) for want of memory; and 5
+/// (`NO_ROOM`) if the lines of the run don't fit, and then as much as fits is written. With 2, 3 and 7 the text ends
+/// with a fault line, which is cut off if it doesn't fit.
 pub fn run_in_memory(
     alloc: Global,
     object: &[u8],
@@ -56,7 +56,7 @@ fn room_of(len: usize) -> u32 {
     len.min(u32::MAX as usize) as u32
 }
 
-/// Reads the object, and runs the script over it.
+/// Reads the object and runs the script over it. Returns the number for C of the exit, or of the fault of the object.
 fn run(alloc: Global, object: &[u8], script: &[u8], out: &mut MemSink) -> u32
     requires empty { out.old.bytes ≡ [] }
     ensures done { result ≡ 0 → WasRun ⟦<ModelDevice as Device>⟧ object.now script.now out.new.bytes }
@@ -78,7 +78,7 @@ fn run(alloc: Global, object: &[u8], script: &[u8], out: &mut MemSink) -> u32
     }
 }
 
-/// Runs the script over an object.
+/// Runs the script over an object. Fails with `NoMemory` if there is not enough memory to begin.
 fn run_over(
     alloc: Global,
     object: Object,

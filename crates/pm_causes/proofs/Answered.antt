@@ -1,4 +1,4 @@
--- Which messages are dropped, which are answered by nothing, and what the others are told.
+-- The messages that are dropped, those without an answer, and the answers of the others.
 use Rattle.std.proofs.Common.{◌≡◌, ◌↔◌, ◌⊎◌, inl, inr, ℕ, Bool, true, false, not, ◌&&◌, ◌==◌, if◌then◌else◌, List, Option, Some, None, refl, sym, ◌∙◌, ap}
 use Rattle.std.specs.Prelude.{is_some, option_and_then, option_map}
 use Rattle.std.proofs.lemmas.Bool.{eqb-true}
@@ -59,7 +59,7 @@ acknowledges_one call is = word_wants (acknowledge_of call) is
 one_acknowledges : (call : Call) → acknowledge_of call ≡ Some 1 → ack_of call ≡ No
 one_acknowledges call is = ap kind_by is
 
--- ---- what a call that is heard is answered
+-- ---- the answer to a heard call
 
 module _ (master : NodeId) (call : Call) (after : State) where
   silent_kind : (response : Response) (kind : AckKind) (node : NodeId) → acknowledged kind master node response after ≡ Silent → kind ≡ No
@@ -214,7 +214,7 @@ module _ (sender : NodeId) (message : Message) (book : State) where
   unheard_answer : IsUnheard sender book → answer_to event book ≡ Drop sender
   unheard_answer is = ap (λ x. answer_of (verdict x) sender call (effect event book)) (unheard_at (master_place sender book) is)
 
-  -- nobody hears the sender, or it is heard
+  -- a sender is heard or not
   heard_or_not : IsUnheard sender book ⊎ ((m : ℕ) × IsHeard sender m book)
   heard_or_not = by (master_place sender book) refl (master_mode sender book) refl book.now.core.halted refl where
     by : (place : Option ℕ) → master_place sender book ≡ place → (mode : Mode) → master_mode sender book ≡ mode → (halted : Bool) → book.now.core.halted ≡ halted

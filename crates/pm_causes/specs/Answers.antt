@@ -1,5 +1,5 @@
--- When a message is dropped, and when it gets no answer. Both are said of the step alone: what becomes of an answer of 0 where a
--- command fails on a device belongs to the layer that gives the commands.
+-- The messages that are dropped, and those that get no answer, by the step alone. If a command fails on a device, the
+-- layer that gives the commands decides about an answer of 0.
 use Rattle.std.specs.Prelude.{◌≡◌, ◌⊎◌, ⊤, ℕ, Bool, true, false, Option, Some, None}
 use Rattle.pm_base.specs.declared.events.Event.{Event}
 use Rattle.pm_base.specs.declared.events.Event.TheVariants.{Ipi}
@@ -18,7 +18,7 @@ use Rattle.pm_causes.specs.Causes.{checks_of}
 
 -- ---- who is heard
 
--- nobody hears this sender: it is no configured master, or that master is asleep or off, or the book is halted
+-- the sender isn't heard: it is no configured master, or that master is asleep or off, or the book is halted
 abbrev pub IsUnheard : NodeId → State → Type 0
 IsUnheard sender book =
     (master_place sender book ≡ None)
@@ -32,7 +32,7 @@ pub record IsHeard (sender : NodeId) (m : ℕ) (book : State) : Type 0 where
   pub mode : (master_mode sender book ≡ Active) ⊎ (master_mode sender book ≡ Suspending)
   pub running : book.now.core.halted ≡ false
 
--- the event is a message of this master, and nobody hears it
+-- the event is a message of this master, which isn't heard
 abbrev pub IsDropped : NodeId → Event → State → Type 0
 IsDropped master (Ipi sender message) book = (sender ≡ master) × IsUnheard sender book
 IsDropped master _ book = ⊥
@@ -44,18 +44,18 @@ abbrev pub is_request_to_suspend : Call → Bool
 is_request_to_suspend (RequestSuspend node ack latency state) = true
 is_request_to_suspend _ = false
 
--- a call that isn't answered in its step: a request to suspend that is accepted, whose answer comes when the request ends, and a call
+-- a call without an answer in its step: an accepted request to suspend, which is answered when it ends, or a call
 -- with acknowledge kind 1
 abbrev pub IsUnanswered : ℕ → Call → State → Type 0
 IsUnanswered m call book =
     ((is_request_to_suspend call ≡ true) × AllHold (checks_of m call book)) ⊎ (acknowledge_of call ≡ Some 1)
 
--- the event is no message, or one that is heard and whose call isn't answered in its step
+-- the event is no message, or a heard one without an answer in its step
 abbrev pub IsSilent : Event → State → Type 0
 IsSilent (Ipi sender message) book = (m : ℕ) × IsHeard sender m book × IsUnanswered m (call_of message) book
 IsSilent _ book = ⊤
 
--- the master to which an answer tells a status, and that status
+-- the master that an answer tells a status, and this status
 abbrev pub told : Answer → Option (NodeId × ℕ)
 told Silent = None
 told (Drop master) = None

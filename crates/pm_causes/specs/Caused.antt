@@ -1,5 +1,4 @@
--- What is said of an answer: it has its causes, and no other. Of the status of a call, of the answer to an event, and of each
--- answer of a run.
+-- An answer has its causes, and only these: the status of a call, the answer to an event, and each answer of a run.
 use Rattle.std.specs.Prelude.{◌≡◌, ◌↔◌, ◌⊎◌, ℕ, List, [], ◌∷◌, Some}
 use Rattle.std.specs.List.{All}
 use Rattle.pm_base.specs.declared.events.Event.{Event}
@@ -18,8 +17,8 @@ use Rattle.pm_causes.specs.Answers.{IsDropped, IsHeard, IsSilent, told as told_b
 use Rattle.pm_causes.specs.Causes.{cause, checks_of, response, status, words}
 use Rattle.pm_calls.specs.Checks.{AllHold, Acknowledge, Arguments, Capable, InUse, Known, Node, NotUsed, Permitted, Stands, UsedBy, WrongMode}
 
--- each status that a call of the master at place m gets in a book comes exactly where its causes are the first of the seven
--- checks of the call that fails
+-- each status of a call of the master at place m comes exactly if one of its causes is the first of the call's seven
+-- checks that fails
 pub record StatusHasCauses (m : ℕ) (call : Call) (book : State) : Type 0 where
   pub success : (status m call book ≡ 0) ↔ AllHold (checks_of m call book)
   pub no_feature : (status m call book ≡ Status.no_feature) ↔ ((cause m call book ≡ Known) ⊎ (cause m call book ≡ Capable))
@@ -33,14 +32,15 @@ pub record StatusHasCauses (m : ℕ) (call : Call) (book : State) : Type 0 where
 
 -- the answer to an event in a book has its causes
 pub record HasCauses (event : Event) (book : State) (answer : Answer) : Type 0 where
-  -- the sender of a message gets Drop exactly where nobody hears it
+  -- the sender of a message gets Drop exactly if it isn't heard
   pub dropped : (master : NodeId) → (answer ≡ Drop master) ↔ IsDropped master event book
-  -- nothing is answered exactly where the event is no message, or one that is heard and whose call isn't answered in its step
+  -- there is no answer exactly if the event is no message, or a heard one without an answer in its step
   pub silent : (answer ≡ Silent) ↔ IsSilent event book
-  -- any other message that is heard is told the status of its call
+  -- any other heard message is told the status of its call
   pub told : (sender : NodeId) (message : Message) (m : ℕ) → event ≡ Ipi sender message → IsHeard sender m book
       → (answer ≡ Silent) ⊎ (told_by answer ≡ Some (sender, status m (call_of message) book))
-  -- with its words, and in the form of its acknowledge kind: a reply, or the callback with the node that it names
+  -- with the words of the call, and in the form of its acknowledge kind: a reply, or the callback with the node that
+  -- the call names
   pub formed : (sender : NodeId) (message : Message) (m : ℕ) → event ≡ Ipi sender message → IsHeard sender m book
       → (answer ≡ Silent)
       ⊎ (answer ≡ acknowledged (ack_of (call_of message)) sender (node_of (call_of message)) (response m (call_of message) book) (effect event book))
@@ -50,6 +50,6 @@ pub record HasCauses (event : Event) (book : State) (answer : Answer) : Type 0 w
 abbrev pub HasOwnCauses : Core → Type 0
 HasOwnCauses core = HasCauses core.event core.before core.outputs.answer
 
--- the answers of all of these core steps have
+-- the answers of all these core steps have their causes
 abbrev pub HaveCauses : List Core → Type 0
 HaveCauses cores = All HasOwnCauses cores

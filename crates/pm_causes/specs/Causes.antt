@@ -1,4 +1,4 @@
--- The first of the seven checks of a call that fails, and what the call is answered.
+-- The first of a call's seven checks that fails, and the response to the call.
 use Rattle.std.specs.Prelude.{ℕ, List, []}
 use Rattle.pm_ipi.specs.declared.calls.Call.{Call}
 use Rattle.pm_ipi.specs.declared.responses.Response.{Response}
@@ -17,13 +17,13 @@ checks_of m call book = (called m call book).checks
 abbrev pub cause : ℕ → Call → State → Cause
 cause m call book = first_failing (checks_of m call book)
 
--- the status in a verdict: a call that is accepted has 0. No call comes to the verdict that its message is dropped
+-- the status in a verdict: 0 for an accepted call. No call has the verdict Dropped
 abbrev pub status_in : Verdict → ℕ
 status_in Dropped = 0
 status_in (Refused response) = response.status
 status_in (Accepted effects) = 0
 
--- the words in it
+-- the words in a verdict
 abbrev pub words_in : Verdict → List ℕ
 words_in Dropped = []
 words_in (Refused response) = response.words
@@ -33,10 +33,10 @@ words_in (Accepted effects) = effects.words
 abbrev pub status : ℕ → Call → State → ℕ
 status m call book = status_in (verdict_of (called m call book))
 
--- the words that are told with it
+-- the words that come with it
 abbrev pub words : ℕ → Call → State → List ℕ
 words m call book = words_in (verdict_of (called m call book))
 
--- both: the response to the call
+-- the response to the call: its status and its words
 abbrev pub response : ℕ → Call → State → Response
 response m call book = record { status = status m call book; words = words m call book }

@@ -1,4 +1,4 @@
--- What a device in memory logged that was fitted, or not, and then driven.
+-- The log of a device in memory that was fitted, if a word names a topology, and then driven.
 use Rattle.std.proofs.Common.{◌≡◌, ◌⊎◌, ℕ, List, [], ◌∷◌, ◌++◌, Option, Some, None, refl, sym, ◌∙◌, ap, subst, inl, inr}
 use Rattle.std.specs.Prelude.{IfNone, IsSome}
 use Rattle.pm_chip.specs.Chip.{chip}
@@ -13,7 +13,7 @@ use Rattle.pm_cli.specs.Logged.{IsSafeLog, fits}
 
 module _ (d : Device.Ghosts Bench) (safe : (t : Topology) (old new : Bench) → old.log ≡ [] → IsSafe d t old new → IsOrdered t (λ unit. 0) new.log)
     (logged : (acts : List Act) (old new : Bench) → Chain d.Does acts old new → new.log ≡ old.log ++ acts) (old new : Bench) (empty : old.log ≡ []) where
-  -- a fit is logged
+  -- a fit is in the log
   pub fit_logged : (named : Option ℕ) (topology : Topology) (start : Bench) → IsFitted d named topology old start → start.log ≡ fits named topology
   fit_logged None topology start fitted = ap (λ (b : Bench). b.log) (sym fitted.1) ∙ empty
   fit_logged (Some k) topology start fitted = logged (Fit topology ∷ []) old start (start, fitted, refl) ∙ ap (λ (log : List Act). log ++ (Fit topology ∷ [])) empty
@@ -22,7 +22,7 @@ module _ (d : Device.Ghosts Bench) (safe : (t : Topology) (old new : Bench) → 
   built_in None topology start fitted = fitted.0
   built_in (Some k) topology start fitted = tt
 
-  -- and then what is done after it
+  -- and so is all that is done after it
   pub all_logged : (named : Option ℕ) (topology : Topology) (start : Bench) (acts : List Act) → IsFitted d named topology old start → Chain d.Does acts start new → new.log ≡ fits named topology ++ acts
   all_logged named topology start acts fitted given = logged acts start new given ∙ ap (λ (log : List Act). log ++ acts) (fit_logged named topology start fitted)
 

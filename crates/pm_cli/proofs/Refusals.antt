@@ -1,4 +1,4 @@
--- A module is added beside another one with which it has no word in common.
+-- A module may be added beside another if they have no word in common.
 use Rattle.std.proofs.Common.{◌≡◌, ℕ, Bool, true, false, if◌then◌else◌, List, [], ◌∷◌, ◌++◌, length, Some, None, refl, ap, ◌∙◌}
 use Rattle.std.specs.Prelude.{map, nat_le}
 use Rattle.pm_base.specs.declared.events.Message.{Message}
@@ -31,11 +31,11 @@ module _ {H : Type 0} (responder : Responder.Ghosts H) (added : ModuleOf H) (r :
       ap (λ (b : Bool). if b then Some (Overlap added) else if nat_le 8 (length it.modules.items) then Some (Full added) else None) (apart it.modules.items is)
       ∙ ap (λ (n : ℕ). if nat_le 8 n then Some (Full added) else None) (one it.modules.items is)
 
-  -- so where it is the only one after one was added to none
+  -- a module may be added beside the only one
   pub fits_beside : (it : ModulesOf H) (before : List Ranged) → ranges responder it ≡ before ++ r ∷ [] → before ≡ [] → refusal responder added it ≡ None
   fits_beside it before is none = fits it (is ∙ ap (λ xs. xs ++ r ∷ []) none)
 
--- modules of words 256 to 259 and 260 to 263 have none
+-- modules of words 256 to 259 and of 260 to 263 have no word in common
 pub have_none : (x y : Ranged) (says other : Message → Response) → x ≡ record { first = 260; last = 263; says = says } → y ≡ record { first = 256; last = 259; says = other }
     → have_common_word x y ≡ false
 have_none x y says other later earlier = ap (λ x. have_common_word x y) later ∙ ap (λ y. have_common_word (record { first = 260; last = 263; says = says }) y) earlier

@@ -1,4 +1,4 @@
--- The headline of what a sink accepted is that of what its writer took, if that is the same.
+-- The headline for all that a sink accepted is the one for all that its writer took, if these are the same.
 use Rattle.std.proofs.Common.{◌≡◌, ℕ, List, [], ◌++◌, Option, sym, ◌∙◌, ap}
 use Rattle.pm_io.specs.declared.sink.Sink as Sink
 use Rattle.pm_io.specs.Inputs.{Moment}
@@ -54,7 +54,7 @@ module _ {O D : Type 0} (o : Sink.Ghosts O) (d : Device.Ghosts D) (AreRead : Lis
     };
   }
 
--- what a run came to, by what it accepted, is what the program came to, by what its writer took
+-- the result of the run, by the accepted bytes, is the result of the program, by the taken bytes
 pub replayed_by : {O : Type 0} {o : Sink.Ghosts O} {d : Device.Ghosts Bench} {before after : Moment} {named : Option ℕ} {ws : List (List ℕ)} {board : Standing} {sink sink' : O} {old new : Bench} {bytes : List ℕ}
     → Meanwhile before after (λ calls. Headline o d (GaveEach calls) named ws board sink sink' old new)
     → (o.state sink).bytes ≡ [] → (o.state sink').bytes ≡ bytes → board.modules ≡ programs_modules → AreTwoCounters board.tasks

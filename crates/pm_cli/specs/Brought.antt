@@ -1,4 +1,4 @@
--- What the program brings to a run: two modules, and two timed tasks that count their calls.
+-- The board that the program gives to a run: two modules, and two timed tasks that count their calls.
 use Rattle.std.specs.Prelude.{◌≡◌, ◌⊎◌, ℕ, List, [], ◌∷◌, Some, None}
 use Rattle.pm_modules.specs.Ranges.{Ranged}
 use Rattle.pm_modules.specs.Responders.{echoed, masked}

@@ -1,4 +1,4 @@
--- What a run of the program came to, down to the number that its process ends with.
+-- A run of the program, from the host's words to the number with which its process ends.
 use Rattle.std.specs.Prelude.{◌≡◌, ◌⊎◌, ℕ, List, [], Option, Some, None, Result, Ok, Err, String, Vec, map, string_bytes}
 use Rattle.std.specs.declared.alloc.Global.{Global}
 use Rattle.std.specs.declared.io.Error.{Error}
@@ -17,22 +17,23 @@ use Rattle.pm_top.specs.Ran.{IsBeforeRun}
 use Rattle.pm_cli.specs.Logged.{IsLogOfRun, IsSafeLog}
 use Rattle.pm_cli.specs.Replayed.{HasReplayed}
 
--- a run of these words ended with this exit, and left its device so
+-- a run of these words ended with this exit, and with these acts on its device
 pub record HasEnded (d : Device.Ghosts Bench) (ws : List (List ℕ)) (result : Exit) (old new : Bench) : Type 0 where
-  -- Usage comes only where the words have no form
+  -- Usage comes only if the words have no form
   pub usage : result ≡ exit.Usage → form ws ≡ None
   -- before a script is run nothing is done to the device
   pub untouched : IsBeforeRun (form ws) result → old ≡ new
-  -- whatever becomes of the run, nothing is used without power, and no domain goes down under its users
+  -- on every exit, nothing is used without power, and no domain goes down under its users
   pub safe : IsSafeLog (topology_in ws) new.log
-  -- where `replay` is done, the acts on the device are those of the whole run of a script, after a fit to the topology that the
-  -- words name, if they do
+  -- if `replay` ends with Done, the acts on the device are those of the whole run of a script, after a fit if the
+  -- words name a topology
   pub driven : (named : Option ℕ) → result ≡ exit.Done → request_of ws ≡ Some (over named Replay) → IsLogOfRun named new.log
-  -- and the headline holds of what some calls gave, those of its inputs, and of some bytes, those that its writer took
+  -- and then the headline holds for what some calls gave (those on its inputs) and for some bytes (those that its
+  -- writer took)
   pub replayed : (named : Option ℕ) → result ≡ exit.Done → request_of ws ≡ Some (over named Replay)
       → (calls : List Call) × (bytes : List ℕ) × HasReplayed d named ws calls bytes old new
 
--- these words were run over a device of the chip on which nothing had been done, and all of whose units stood at 0
+-- these words were run over a new device of the chip, with all units at 0
 pub record HasRun (d : Device.Ghosts Bench) (ws : List (List ℕ)) (result : Exit) : Type 0 where
   pub old : Bench
   pub new : Bench
@@ -44,22 +45,22 @@ pub record HasRun (d : Device.Ghosts Bench) (ws : List (List ℕ)) (result : Exi
 abbrev pub GivenWords : Type 0
 GivenWords = Result (Vec (String Global) Global) Error
 
--- they are these texts: none where they are no text
+-- the words are these texts; there are none if one of them is no text
 abbrev pub AreWordsOf : GivenWords → List (List ℕ) → Type 0
 AreWordsOf (Ok words) ws = ws ≡ map string_bytes words.items
 AreWordsOf (Err error) ws = (error_kind error ≡ InvalidData) × (ws ≡ [])
 
--- they were run
+-- these given words were run
 pub record HasRunGiven (d : Device.Ghosts Bench) (given : GivenWords) (result : Exit) : Type 0 where
   pub ws : List (List ℕ)
   pub are : AreWordsOf given ws
   pub run : HasRun d ws result
 
--- they were run, or memory was wanted before
+-- these given words were run, or memory ran out before
 abbrev pub MayRun : Device.Ghosts Bench → GivenWords → Exit → Type 0
 MayRun d given result = (result ≡ exit.Memory) ⊎ HasRunGiven d given result
 
--- the number that a process ends with
+-- the number with which a process ends
 abbrev pub code_of : Exit → ℕ
 code_of exit.Done = 0
 code_of exit.Usage = 1
@@ -71,7 +72,7 @@ code_of exit.Memory = 6
 code_of exit.TooLarge = 7
 code_of exit.BadText = 8
 
--- a process ends with this number: that of the exit of a run of the words that the host gave
+-- a process ends with this number: that of the exit of a run of the host's words
 pub record ProcessEnds (d : Device.Ghosts Bench) (given : GivenWords) (status : ℕ) : Type 0 where
   pub result : Exit
   pub run : MayRun d given result

@@ -1,4 +1,4 @@
--- What the program logs at its device.
+-- The log of the program's device.
 use Rattle.std.specs.Prelude.{◌≡◌, ◌⊎◌, ℕ, Bool, List, [], ◌∷◌, ◌++◌, Option, Some, None, IfNone, IsSome}
 use Rattle.pm_base.specs.declared.events.Event.{Event}
 use Rattle.pm_object.specs.declared.object.Object.{Object}
@@ -9,22 +9,21 @@ use Rattle.pm_apply.specs.Order.{IsOrdered}
 use Rattle.pm_drive.specs.Scripts.{script_driven}
 use Rattle.pm_drive.specs.Drive.{acts}
 
--- each act is in an order in which nothing is used without power, and no domain goes down under its users: by the chip,
--- or, only if the word at a place names the topology, by one to which the device was fitted before all of them
+-- the acts are in an order in which nothing is used without power and no domain goes down under its users, by the
+-- chip; or, only if the word at this place names the topology, by one to which the device was fitted before them
 abbrev pub IsSafeLog : Option ℕ → List Act → Type 0
 IsSafeLog place log =
     IsOrdered chip (λ unit. 0) log
     ⊎ (IsSome place
     × ((topology : Topology) × (acts : List Act) × (log ≡ Fit topology ∷ acts) × IsOrdered topology (λ unit. 0) acts))
 
--- where a word names the topology, the device is fitted to it
+-- the fit of the device, if a word names the topology
 abbrev pub fits : Option ℕ → Topology → List Act
 fits None topology = []
 fits (Some k) topology = Fit topology ∷ []
 
--- the acts are those of the whole run of a script over an object, under some answers of the device: all of them, in
--- this order, and no other; before them, if a word names the topology, the device is fitted to it, and else that is
--- the chip's
+-- the acts are exactly those of the whole run of a script over an object, under some answers of the device, in order;
+-- before them, if a word names the topology, is the fit to it, and else it is the chip's
 pub record IsLogOfRun (named : Option ℕ) (log : List Act) : Type 0 where
   pub object : Object
   pub topology : Topology

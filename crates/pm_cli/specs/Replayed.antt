@@ -1,4 +1,4 @@
--- What Done of `replay` means of the program, by what its inputs gave and what its writer took.
+-- The promise of Done of `replay` for the program, by the bytes that its inputs gave and that its writer took.
 use Rattle.std.specs.Prelude.{◌≡◌, ℕ, List, [], ◌++◌, Option, ⊤}
 use Rattle.pm_io.specs.declared.sink.Sink as Sink
 use Rattle.pm_io.specs.Calls.{Call}
@@ -12,13 +12,13 @@ use Rattle.pm_top.specs.Headline.{Headline}
 use Rattle.pm_cli.specs.Brought.{AreTwoCounters, programs_modules}
 use Rattle.pm_cli.specs.Logged.{fits}
 
--- the bytes that a writer took, as a sink that shows them
+-- the bytes that a writer took, as an observable sink
 abbrev pub taken : Sink.Ghosts (List ℕ)
 taken = record { observable = ⊤; state = λ bytes. record { bytes = bytes; faults = 0; stalls = 0 } }
 
--- these calls read the names whole, one after another, and the headline holds of the bytes that they gave, with the modules and the
--- tasks of the program: the text of the run is the whole of the bytes that were taken, and the acts on the device are those of the run,
--- all of them, in this order, and no other, after a fit to the topology that the words name, if they do
+-- these calls read the names whole, one after another. The headline holds for the bytes that they gave, with the
+-- modules and the tasks of the program: the text of the run is all that was taken, and the acts on the device are
+-- exactly those of the run, in order, after a fit if the words name a topology
 pub record HasReplayed (d : Device.Ghosts Bench) (named : Option ℕ) (ws : List (List ℕ)) (calls : List Call) (bytes : List ℕ) (old new : Bench) : Type 0 where
   pub board : Standing
   pub modules : board.modules ≡ programs_modules

@@ -1,4 +1,4 @@
-//! The modules and the timed tasks of the program.
+//! The modules and the timed tasks that the program gives to a run.
 
 ghost use Rattle.std.specs.Prelude.{◌≡◌, ◌≢◌, ◌∷◌, ◌++◌, [], IfOk, None};
 ghost use Rattle.pm_modules.specs.Modules.{ranged, ranges, refusal};
@@ -12,7 +12,8 @@ use pm_modules::{ModuleOf, ModulesOf, Responder};
 use pm_tasks::{Handler, TasksOf};
 use std::alloc::Global;
 
-/// Modules of which the first handler answers words 256 to 259, and the second one words 260 to 263.
+/// Two modules: the first handler answers words 256 to 259, and the second one words 260 to 263. Fails with
+/// `NoMemory` if there is not enough memory.
 pub fn modules<H: Responder>(alloc: Global, first: H, second: H) -> Result<ModulesOf<H>, NoMemory>
     requires first { H.says first ≡ echoed }
     requires second { H.says second ≡ masked 255 }
@@ -24,7 +25,7 @@ pub fn modules<H: Responder>(alloc: Global, first: H, second: H) -> Result<Modul
     Ok(modules)
 }
 
-/// Adds a module that nothing stands in the way of.
+/// Adds a module. It must have no word in common with those that are there.
 fn add<H: Responder>(modules: &mut ModulesOf<H>, added: ModuleOf<H>)
     requires { refusal H.Responder added modules.old ≡ None }
     ensures { ranges H.Responder modules.new
@@ -33,7 +34,7 @@ fn add<H: Responder>(modules: &mut ModulesOf<H>, added: ModuleOf<H>)
     let _added = modules.add(added);
 }
 
-/// Tasks with these handlers, both stopped.
+/// Two stored tasks with these handlers, both stopped. Fails with `NoMemory` if there is not enough memory.
 pub fn tasks<H: Handler>(alloc: Global, first: H, second: H) -> Result<TasksOf<H>, NoMemory>
     requires first { H.calls first ≡ 0 }
     requires second { H.calls second ≡ 0 }
@@ -45,7 +46,7 @@ pub fn tasks<H: Handler>(alloc: Global, first: H, second: H) -> Result<TasksOf<H
     Ok(tasks)
 }
 
-/// Stores a stopped task where there is room for it, and answers its key.
+/// Stores a task, stopped, and returns its key. There has to be room for it.
 fn store<H: Handler>(tasks: &mut TasksOf<H>, handler: H) -> usize
     requires settled { (timetable H.Handler tasks.old).left ≡ [] }
     requires room { stored_count (timetable H.Handler tasks.old)
@@ -58,7 +59,7 @@ fn store<H: Handler>(tasks: &mut TasksOf<H>, handler: H) -> usize
     }
 }
 
-/// A value in a box.
+/// A value in a box. Fails with `NoMemory` if there is not enough memory.
 pub fn boxed<T: Drop>(alloc: Global, value: T) -> Result<Box<T>, NoMemory>
     ensures { IfOk result (λ held. held.value ≡ value) }
 {

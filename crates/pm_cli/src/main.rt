@@ -1,4 +1,4 @@
-//! The program `pmu`, over the files and the standard output of the host and a device in memory.
+//! The program `pmu`: the top call over the host's files, its standard output, and a device in memory.
 #![tactic(auto)]
 
 ghost use Rattle.std.specs.Prelude.{◌≡◌, ℕ, [], IfOk, List as Sequence, MatchResult, None, Option, Some, map, string_bytes};
@@ -40,21 +40,21 @@ fn main(rt: HostRuntime) -> ExitCode {
     end(&rt, words(&rt))
 }
 
-/// Runs the words that the host gave. The process ends with the number of the exit.
+/// Runs the words that the host gave, and ends the process with the number of the exit.
 fn end<R: Files + Print + AllocGlobal>(rt: &R, words: io::Result<Vec<String>>) -> ExitCode
     ensures { ProcessEnds ⟦<ModelDevice as Device>⟧ words (exit_status result) }
 {
     ExitCode::from(code_of(run(rt, words)))
 }
 
-/// The number that the process ends with.
+/// The number with which the process ends.
 fn code_of(exit: Exit) -> u8
     ensures { result ≡ code_of exit }
 {
     exit as u8
 }
 
-/// Runs these words, or ends for want of memory.
+/// Runs these words. The exit is Memory if there is not enough memory to begin.
 fn run<R: Files + Print + AllocGlobal>(rt: &R, words: io::Result<Vec<String>>) -> Exit
     ensures { MayRun ⟦<ModelDevice as Device>⟧ words result }
 {
@@ -64,7 +64,7 @@ fn run<R: Files + Print + AllocGlobal>(rt: &R, words: io::Result<Vec<String>>) -
     }
 }
 
-/// Runs them where there is memory.
+/// Runs these words, or fails with `NoMemory` before they are run.
 fn run_given<R: Files + Print + AllocGlobal>(
     rt: &R,
     words: io::Result<Vec<String>>,
@@ -75,7 +75,7 @@ fn run_given<R: Files + Print + AllocGlobal>(
     run_words(rt, words.as_slice())
 }
 
-/// The words as texts. Words that are no text have no form, and are as no words.
+/// The words as texts. If one of them is no text there are none, and so they have no form. Fails with `NoMemory`.
 fn texts(alloc: Global, words: io::Result<Vec<String>>) -> Result<Vec<String>, NoMemory>
     ensures { IfOk result (λ texts. AreWordsOf words (map string_bytes texts.items)) }
 {
@@ -86,7 +86,7 @@ fn texts(alloc: Global, words: io::Result<Vec<String>>) -> Result<Vec<String>, N
     }
 }
 
-/// Runs these words over a new device.
+/// Runs these words over a new device, or fails with `NoMemory` before they are run.
 fn run_words<R: Files + Print + AllocGlobal>(rt: &R, words: &[String]) -> Result<Exit, NoMemory>
     ensures { IfOk result (HasRun ⟦<ModelDevice as Device>⟧ (map string_bytes words.now)) }
 {
@@ -94,7 +94,8 @@ fn run_words<R: Files + Print + AllocGlobal>(rt: &R, words: &[String]) -> Result
     run_over(rt, words, &mut device)
 }
 
-/// Runs them over this device, with two handlers for ranges of API words, and the timed tasks.
+/// Runs these words over this device, with the program's two modules and two timed tasks, or fails with `NoMemory`
+/// before they are run.
 fn run_over<R: Files + Print + AllocGlobal>(
     rt: &R,
     words: &[String],
@@ -113,7 +114,8 @@ fn run_over<R: Files + Print + AllocGlobal>(
     run_with(rt, words, device, &modules)
 }
 
-/// Runs them over this device with these modules, and with two handlers that count their calls.
+/// Runs these words over this device and these modules, with two tasks that count their calls, or fails with
+/// `NoMemory` before they are run.
 fn run_with<R: Files + Print + AllocGlobal>(
     rt: &R,
     words: &[String],
@@ -134,10 +136,10 @@ fn run_with<R: Files + Print + AllocGlobal>(
     Ok(work(rt, words, device, modules, &mut tasks))
 }
 
-/// Runs these words over a new device, the files and the standard output of the host, with the modules and the timed
-/// tasks of the program. Whatever becomes of them, the acts on the device are in an order in which nothing is used
-/// without power, and no domain goes down under its users. Where `replay` is done, they are those of the whole run of a
-/// script, after a fit to the topology that the words name, if they do.
+/// Runs these words over a new device, with the host's files and standard output, and the modules and timed tasks of
+/// the program. On every exit, the acts on the device are in an order in which nothing is used without power and no
+/// domain goes down under its users. If `replay` ends with Done they are those of the whole run of a script, after a
+/// fit if the words name a topology.
 fn work<R: Files + Print + AllocGlobal>(
     rt: &R,
     words: &[String],
@@ -149,15 +151,15 @@ fn work<R: Files + Print + AllocGlobal>(
     requires log { device.old.log ≡ [] }
     requires modules { ranges ⟦<Box<dyn Responder> as Responder>⟧ modules.now ≡ programs_modules }
     requires tasks { AreTwoCounters (timetable ⟦<Box<dyn Handler> as Handler>⟧ tasks.old) }
-    // Usage comes only where the words have no form.
+    // Usage comes only if the words have no form.
     ensures usage { result ≡ Exit.Usage → form (map string_bytes words.now) ≡ None }
     // Before a script is run nothing is done to the device.
     ensures untouched { IsBeforeRun (form (map string_bytes words.now)) result → device.old ≡ device.new }
     ensures safe { IsSafeLog (topology_in (map string_bytes words.now)) device.new.log }
     ensures driven { (named : Option ℕ) → result ≡ Exit.Done
         → request_of (map string_bytes words.now) ≡ Some (over named Replay) → IsLogOfRun named device.new.log }
-    // And the headline holds of what some calls gave, and of some bytes. They are those of these files and of this output:
-    // `run_on` says so.
+    // The headline holds for what some calls gave, and for some bytes. `run_on` says that these are the calls on the
+    // files and the bytes of the output.
     ensures replayed { (named : Option ℕ) → result ≡ Exit.Done
         → request_of (map string_bytes words.now) ≡ Some (over named Replay)
         → (calls : Sequence Call) × (bytes : Sequence ℕ) × HasReplayed ⟦<ModelDevice as Device>⟧ named
@@ -180,7 +182,8 @@ fn work<R: Files + Print + AllocGlobal>(
     )
 }
 
-/// Runs these words over inputs and a sink that has accepted nothing, and hands on to its writer what the sink gathered.
+/// Runs these words over these inputs and a sink that has accepted nothing, and hands the sink's bytes on to its
+/// writer.
 fn run_on<I: Inputs, W: Write + Drop>(
     alloc: Global,
     words: &[String],
@@ -195,14 +198,14 @@ fn run_on<I: Inputs, W: Write + Drop>(
     requires log { device.old.log ≡ [] }
     requires modules { ranges ⟦<Box<dyn Responder> as Responder>⟧ modules.now ≡ programs_modules }
     requires tasks { AreTwoCounters (timetable ⟦<Box<dyn Handler> as Handler>⟧ tasks.old) }
-    // Usage comes only where the words have no form.
+    // Usage comes only if the words have no form.
     ensures usage { result ≡ Exit.Usage → form (map string_bytes words.now) ≡ None }
     // Before a script is run nothing is done to the device.
     ensures untouched { IsBeforeRun (form (map string_bytes words.now)) result → device.old ≡ device.new }
     ensures safe { IsSafeLog (topology_in (map string_bytes words.now)) device.new.log }
     ensures driven { (named : Option ℕ) → result ≡ Exit.Done
         → request_of (map string_bytes words.now) ≡ Some (over named Replay) → IsLogOfRun named device.new.log }
-    // And the headline holds of the bytes that the calls of the inputs gave, and of all bytes that the writer took.
+    // The headline holds for the bytes that the calls of the inputs gave, and for all bytes that the writer took.
     ensures replayed { (named : Option ℕ) → result ≡ Exit.Done
         → request_of (map string_bytes words.now) ≡ Some (over named Replay)
         → Meanwhile (I.state inputs.old) (I.state inputs.new) (λ calls. HasReplayed ⟦<ModelDevice as Device>⟧ named
@@ -214,7 +217,7 @@ fn run_on<I: Inputs, W: Write + Drop>(
     out.finish(exit)
 }
 
-/// The device of the chip, all of whose units stand at 0.
+/// A device of the chip, with all units at 0. Fails with `NoMemory` if there is not enough memory.
 fn device(alloc: Global) -> Result<ModelDevice, NoMemory>
     ensures fresh { IfOk result (λ device. IsFresh chip (moment_of device)) }
     ensures log { IfOk result (λ device. device.log ≡ []) }
@@ -222,7 +225,7 @@ fn device(alloc: Global) -> Result<ModelDevice, NoMemory>
     ModelDevice::new(alloc, &zynqmp(alloc)?)
 }
 
-/// The words after the program's name.
+/// The words after the program's name, or the host's error if one of them is no text.
 fn words<R: Env + AllocGlobal>(rt: &R) -> io::Result<Vec<String>> {
     Ok(env::args(rt)?.skip(1).collect(rt.alloc())?)
 }

@@ -1,4 +1,4 @@
--- The clocks of two runs beside one another: beyond the reach of a master they are the same after each core step.
+-- Clocks of two runs beside one another: beyond the reach of a master they are equal after each core step.
 use Rattle.std.proofs.Common.{◌≡◌, ℕ, zero, suc, Bool, true, false, ◌&&◌, ◌==◌, List, [], ◌∷◌, length, map, Some, None, Option, refl, ap, ◌∙◌, sym, subst}
 use Rattle.std.specs.Prelude.{find, if◌then◌else◌, is_some, not, slice_get, slice_index, slice_set, unwrap_or}
 use Rattle.std.specs.Option.{option_map, option_map_or}
@@ -63,7 +63,7 @@ use Rattle.pm_clock_laws.specs.Same.{IsTreeOver, SameClocks, tree_after_core, tr
 use Rattle.pm_clock_laws.proofs.ColumnLemmas.{followed_alike, served_alike, served_barred, served_other}
 use Rattle.pm_clock_laws.proofs.RunsLemmas.{HaveSame, responses_alike}
 
--- what is known of books, of their steps and of clocks
+-- the laws of books, of their steps and of clocks from the crates below
 pub record Below : Type 0 where
   pub values : (m : NodeId) (a b : State) → AreObjects a.fixed → IsWellFormed a.fixed.topology
       → Agree (border_in a m) a b → IsValueAlike a.fixed.object a.fixed.topology (border_in a m) a b
@@ -136,7 +136,7 @@ served_long seen (Some made) tree = by (is_some (refused seen made.0 made.1 tree
     by true = refl
     by false = changed_at_long made.0 made.1.act (clock_place made.1.clock) tree
 
--- the tree after a core step stands over the book after it
+-- the tree after a core step fits the book after it
 tree_over : StandAfterSteps → (event : Event) (answer : Answer) (book : State) (tree : Tree) → HasAllPlaces tree → IsTreeOver book (tree_after event answer book tree)
 tree_over laws event answer book tree places = record {
   stands = laws.followed (view_of book) (served_by (view_of book) (made event answer) tree);
@@ -159,7 +159,7 @@ pub record IsUser (object : Object) (n : NodeId) : Type 0 where
 abbrev pub is_named : NodeId → MasterRec → Bool
 is_named n r = r.node == n.0
 
--- by an object of the run: it has the masters of the loaded one
+-- a master that may use the slave by an object of the run; each object has the masters of the loaded one
 user_at : (fixed : Fixed) (object : Object) → IsAmong fixed object → (n slave : NodeId) → may_use object fixed.topology n slave ≡ true → IsUser fixed.object n
 user_at fixed object among n slave may = by (place_of fixed.object n) refl
   where
@@ -183,7 +183,7 @@ user_at fixed object among n slave may = by (place_of fixed.object n) refl
         }
 
 module _ (border : Border) (k : ℕ) (def : ClockDef) (here : slice_get clocks k ≡ Some def) where
-  -- a configured master that may use it is beyond
+  -- a configured master that may use the slave is beyond
   user_beyond : (fixed : Fixed) → IsClockBeyond fixed border def.number → (object : Object) → IsAmong fixed object → (n : NodeId) (user : IsUser fixed.object n)
       → may_use object fixed.topology n def.node ≡ true → border.master user.place ≡ true
   user_beyond fixed beyond object among n user may = by (border.master user.place) refl
@@ -194,7 +194,8 @@ module _ (border : Border) (k : ℕ) (def : ClockDef) (here : slice_get clocks k
           absurd (beyond (used_within k user.place among.place def user.master object here user.is_master is among.there
           (subst (λ node. may_use object fixed.topology node def.node ≡ true) (sym user.node) may)))
 
-  -- a master may use the slave by the objects in force of both books or of neither: where none is beyond, nobody may
+  -- a master may use the slave by the objects in force of both books or of neither; without a master beyond nobody
+  -- may
   permit_alike : (a b : State) → Agree border a b → IsClockBeyond a.fixed border def.number → (n : NodeId)
       → may_use (in_force a) a.fixed.topology n def.node ≡ may_use (in_force b) b.fixed.topology n def.node
   permit_alike a b agree beyond n = by border.some refl
@@ -242,7 +243,7 @@ module _ (border : Border) (k : ℕ) (def : ClockDef) (here : slice_get clocks k
 
   -- ---- a call
 
-  -- one on this clock and one on another: the same is left where the same was
+  -- a call on this clock, or on another one: equal columns stay equal
   call_alike : (a b : Seen) (call : Option (NodeId × ClockCall)) (s t : Tree) → ((n : NodeId) → a.may_use n def.node ≡ b.may_use n def.node) → column k s ≡ column k t
       → column k (served_by a call s) ≡ column k (served_by b call t)
   call_alike a b None s t permit same = same
@@ -261,7 +262,7 @@ module _ (border : Border) (k : ℕ) (def : ClockDef) (here : slice_get clocks k
       by None place = apart (λ found. no_some k (sym place ∙ found))
       by (Some j) place = at j place (j == k) refl
 
-  -- one of a master that may not use the slave leaves the clock as it is
+  -- a call of a master that may not use the slave leaves the clock as it is
   barred_call : (seen : Seen) (master : NodeId) (found : Option ClockCall) (tree : Tree) → seen.may_use master def.node ≡ false
       → column k (served_by seen (option_map (λ call. (master, call)) found) tree) ≡ column k tree
   barred_call seen master None tree barred = refl
@@ -276,7 +277,7 @@ module _ (border : Border) (k : ℕ) (def : ClockDef) (here : slice_get clocks k
 
 -- ---- a call on a clock names no node
 
--- what holds of the numbers of the calls on clocks holds of the number of one
+-- a property of all numbers of calls on clocks holds of the number of one
 numbered : (P : ℕ → Type 0) (number argument : ℕ) (found : ClockAct) → P 36 → P 37 → P 38 → P 39 → P 40 → P 43 → P 44
     → act_by number argument ≡ Some found → P number
 numbered P number argument found p36 p37 p38 p39 p40 p43 p44 is = by_36 (number == 36) refl is
@@ -332,7 +333,7 @@ names_nothing : (t : Topology) (border : Border) (message : Message) (found : Cl
 names_nothing t border message found is =
     numbered (λ number. names_beyond t border (call_as message number) ≡ true) message.api _ found refl refl refl refl refl refl refl is
 
--- so where its sender is beyond, the whole message is
+-- so the whole message is beyond if its sender is
 message_is_beyond : (object : Object) (t : Topology) (border : Border) (sender : NodeId) (message : Message) (found : ClockAct) (p : ℕ)
     → place_of object sender ≡ Some p → border.master p ≡ true → act_of message ≡ Some found → message_beyond object t border (Ipi sender message) ≡ true
 message_is_beyond object t border sender message found p place beyond is =
@@ -354,7 +355,7 @@ module _ (laws : Below) (m : NodeId) (k : ℕ) (def : ClockDef) (here : slice_ge
       permit : (n : NodeId) → may_use (in_force a) a.fixed.topology n def.node ≡ may_use (in_force b) b.fixed.topology n def.node
       permit = permit_alike (border_in a m) k def here a b agree beyond
 
-      -- by a master that may use the slave, and so is beyond
+      -- a call by a master that may use the slave, and is therefore beyond
       with_act : (found : Option ClockAct) → act_of message ≡ found → may_use (in_force a) a.fixed.topology sender def.node ≡ true
           → column k (served_by (view_of a) (made (Ipi sender message) x) s) ≡ column k (served_by (view_of b) (made (Ipi sender message) y) t)
       with_act None is may = none_made (view_of a) x s ∙ same ∙ sym (none_made (view_of b) y t)
@@ -410,7 +411,7 @@ module _ (laws : Below) (m : NodeId) (k : ℕ) (def : ClockDef) (here : slice_ge
 module _ (laws : Below) (m : NodeId) where
   -- ---- a core step
 
-  -- of two books that agree
+  -- one event in two books that agree
   step_alike : (event : Event) (x y : Answer) (a b : State) (s t : Tree) → Agree (border_in a m) a b
       → (message_beyond a.fixed.object a.fixed.topology (border_in a m) event ≡ true → x ≡ y)
       → HasAllPlaces s → HasAllPlaces t
@@ -480,7 +481,7 @@ module _ (laws : Below) (m : NodeId) where
   cores_alike es fs a b s t object formed first second later agree same =
       cores_along a.fixed.object a.fixed.topology a.fixed.attached es fs later a b s t refl object formed first second agree same
 
-  -- ---- what is the same then
+  -- ---- equal clocks after that
 
   root_alike : (a b : State) → AreObjects a.fixed → IsWellFormed a.fixed.topology → Agree (border_in a m) a b → (node : NodeId)
       → is_beyond a.fixed.object a.fixed.topology (border_in a m) (Node node) ≡ true → is_on a node ≡ is_on b node
@@ -511,7 +512,7 @@ module _ (laws : Below) (m : NodeId) where
       by c beyond None is = refl
       by c beyond (Some node) is = ap (λ (on : Bool). Some on) (root_same (kind_of a.fixed.topology node) refl)
         where
-          -- a root that comes of no slave is off in both books
+          -- a root without a slave is off in both books
           off : (kind : Kind) → kind_of a.fixed.topology node ≡ kind → is_slave kind ≡ false → is_on a node ≡ is_on b node
           off kind at no_slave =
               ap (λ (k : Kind). is_slave k && not (value (Node node) a == 0)) at ∙ ap (λ slave. slave && not (value (Node node) a == 0)) no_slave

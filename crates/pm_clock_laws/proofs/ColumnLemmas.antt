@@ -1,4 +1,4 @@
--- What a tree has of one clock after a step and after a call.
+-- The column of one clock after a step, and after a call.
 use Rattle.std.proofs.Common.{◌≡◌, ℕ, zero, suc, Bool, true, false, ◌&&◌, ◌||◌, ◌==◌, List, [], ◌∷◌, length, map, Some, None, Option, refl, ap, ◌∙◌, sym}
 use Rattle.std.specs.Prelude.{find, if◌then◌else◌, is_some, not, replicate, slice_get, slice_set, unwrap_or}
 use Rattle.std.specs.Option.{option_map, option_map_or}
@@ -167,7 +167,7 @@ with_enables change it = record { enables = map change it.enables; setting = it.
 abbrev pub with_chosen : (Setting → Setting) → Column → Column
 with_chosen change it = record { enables = it.enables; setting = option_map change it.setting }
 
--- what an act of a master makes of what a tree has of the clock
+-- the column of the clock after a master's act
 abbrev pub changed_column : NodeId → ClockAct → Column → Column
 changed_column master act.Enable it = with_enables (put_enable master true) it
 changed_column master act.Disable it = with_enables (put_enable master false) it
@@ -234,7 +234,7 @@ rival_alike k master call s t place same =
 abbrev pub may_use_in : Seen → NodeId → Option ClockDef → Bool
 may_use_in seen master found = option_map_or (λ (def : ClockDef). seen.may_use master def.node) found false
 
--- the master may change a clock in both views where it may use the clock's slave in both
+-- a master may change a clock in both views if it may use the clock's slave in both
 pub may_alike : (k : ℕ) (def : ClockDef) (a b : Seen) (master : NodeId) (call : ClockCall) → slice_get clocks k ≡ Some def → place_of call.clock ≡ Some k
     → a.may_use master def.node ≡ b.may_use master def.node → may_change a master call ≡ may_change b master call
 may_alike k def a b master call here place permit =
@@ -295,7 +295,7 @@ served_other k seen master call tree apart = by (is_some (refused seen master ca
     by true = refl
     by false = elsewhere k master call.act (place_of call.clock) tree apart
 
--- a call that changes something isn't done by who may not use the slave
+-- a call that changes a clock is refused if the caller may not use its slave
 barred_refused : (missing within : Bool) (found : Option NodeId) → is_some (refused_by missing within false found) ≡ true
 barred_refused true within found = refl
 barred_refused false false found = refl
@@ -306,7 +306,7 @@ pub served_barred : (k : ℕ) (def : ClockDef) (seen : Seen) (master : NodeId) (
     → column k (served seen master call tree) ≡ column k tree
 served_barred k def seen master call tree here barred = by_place (place_of call.clock) refl
   where
-    -- on this clock
+    -- a call on this clock
     refuses : place_of call.clock ≡ Some k → is_change call.act ≡ true → is_some (refused seen master call tree) ≡ true
     refuses place changes =
         let may : may_change seen master call ≡ false =

@@ -21,7 +21,7 @@ use Rattle.pm_clock_laws.specs.Worlds.{AreClocksAlike, IsClockAlike, turns}
 use Rattle.pm_clock_laws.proofs.BesideLemmas.{Below, cores_alike, have_same}
 use Rattle.pm_clock_laws.proofs.RunsLemmas.{HaveSame, changes_alike, ends_alike, runs_alike}
 
--- what is known of runs
+-- the laws of runs from the crate below
 pub record RunLaws : Type 0 where
   pub events : (c : Setup) (m : NodeId) (event : Event) (a b : Stand) → ObeysMasterRules c.topology
       → AreQuietBoxes c m a.boxes b.boxes
@@ -65,7 +65,7 @@ module _ (laws : Below) (lines : RunLaws) (parents : RunByTheirParents) (c : Set
 
   -- ---- a line
 
-  -- the clocks before it, and after it
+  -- the clocks before the line, and after it
   turn_alike : (a b next other : State) (s t after_s after_t : Tree) → IsBookOf c a → IsBookOf c next → Agree border a b → Agree border next other
       → SameClocks (fixed_of c) border a b s t → SameClocks (fixed_of c) border next other after_s after_t
       → IsClockAlike (fixed_of c) border (record { before = s; after = after_s }) (record { before = t; after = after_t })

@@ -1,4 +1,4 @@
--- Clocks of two trees run alike where all that they come from is alike.
+-- Clocks of two trees run alike if their columns and roots are equal.
 use Rattle.std.proofs.Common.{◌≡◌, ℕ, Bool, true, false, [], ◌∷◌, Some, None, Option, refl, ap, ◌∙◌, sym, subst}
 use Rattle.std.specs.Prelude.{◌&&◌, ◌||◌, if◌then◌else◌, is_some, not, slice_get, unwrap_or}
 use Rattle.std.specs.List.{list_any}
@@ -26,7 +26,7 @@ use Rattle.pm_clock_tree.specs.Tree.Runs.{root, driven}
 use Rattle.pm_clock_laws.specs.Column.{Column, column, enable_at}
 use Rattle.pm_clock_laws.proofs.ColumnLemmas.{may_use_in, refused_alike, refused_by}
 
--- some of the clocks, with the parents of each of them, chosen or not, of which two trees have the same
+-- some of the clocks, with all their parents, selected or not, for which two trees are equal
 pub record HaveSame (Among : ℕ → Type 0) (s t : Tree) : Type 0 where
   pub roots : (c : ℕ) → Among c → slice_get s.roots c ≡ slice_get t.roots c
   pub columns : (k : ℕ) (def : ClockDef) → slice_get clocks k ≡ Some def → Among def.number → column k s ≡ column k t
@@ -143,7 +143,7 @@ responses_alike law Among s t first second same a b master call permit among =
 
 -- ---- what is told
 
--- a change by the two ends of it
+-- the change of a clock, by whether it runs before and after
 abbrev pub change_by : ℕ → Bool → Bool → Option ClockChange
 change_by number from to = if is_some (place_of number) && not (is_same from to) then Some (change number from to) else None
 

@@ -1,4 +1,4 @@
--- Which clocks the reach of a master has.
+-- The clocks within the reach of a master.
 use Rattle.std.specs.Prelude.{◌≡◌, ℕ, true, false, slice_get, Some}
 use Rattle.pm_base.specs.declared.names.NodeId.{NodeId}
 use Rattle.pm_topology.specs.declared.places.Kind.TheVariants.{Slave}
@@ -12,8 +12,8 @@ use Rattle.pm_clock_tree.specs.declared.table.ClockDef.{ClockDef}
 use Rattle.pm_clock_tree.specs.Table.{clocks, parent_at, roots}
 use Rattle.pm_clocks.specs.Clocked.{node_of}
 
--- the least set of clocks that has each root whose node is a slave within the border, each clock whose slave a master within may
--- use by an object of the run, and each clock that has one of these among its parents, chosen or not
+-- the least set of clocks within: each root whose slave is within the border; each clock whose slave a master within
+-- may use by an object of the run; and each clock that has one of these among its parents, selected or not
 pub data IsClockWithin (fixed : Fixed) (border : Border) : ℕ → Type 0 where
   root : (c s : ℕ) (node : NodeId) → slice_get roots c ≡ Some node
       → kind_of fixed.topology node ≡ Slave s → border.slave s ≡ false → IsClockWithin fixed border c

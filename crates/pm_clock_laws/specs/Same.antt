@@ -1,4 +1,4 @@
--- When two clock trees agree beyond a border.
+-- Agreement of two clock trees beyond a border.
 use Rattle.std.specs.Prelude.{◌≡◌, ℕ, List, [], ◌∷◌, slice_get, Some}
 use Rattle.pm_state.specs.State.{Fixed, State}
 use Rattle.pm_run.specs.Run.{Core}
@@ -10,20 +10,19 @@ use Rattle.pm_clocks.specs.Clocked.{StandsOver, tree_after}
 use Rattle.pm_clock_laws.specs.Column.{column}
 use Rattle.pm_clock_laws.specs.Reach.{IsClockBeyond}
 
--- a tree stands over a book, and has a place for each clock
+-- a tree fits a book, and has a place for each clock
 pub record IsTreeOver (book : State) (tree : Tree) : Type 0 where
   pub stands : StandsOver book tree
   pub places : HasAllPlaces tree
 
--- each of two trees stands over its book, and of a clock beyond both have the same: which masters enable it, and what was
--- chosen for it
+-- each of two trees fits its book; and for a clock beyond both have the same enables, divider and parent
 pub record SameClocks (fixed : Fixed) (border : Border) (a b : State) (s t : Tree) : Type 0 where
   pub first : IsTreeOver a s
   pub second : IsTreeOver b t
   pub columns : (k : ℕ) (def : ClockDef) → slice_get clocks k ≡ Some def → IsClockBeyond fixed border def.number
       → column k s ≡ column k t
 
--- the tree after core steps: the calls on clocks that were accepted in them, in order, and what was dropped
+-- the tree after core steps: the accepted calls on clocks are done in order, and enables are dropped
 abbrev pub tree_after_core : Core → Tree → Tree
 tree_after_core core tree = tree_after core.event core.outputs.answer core.after tree
 

@@ -1,4 +1,4 @@
-//! Laws of the clocks of a run, and of the run without the messages of a master.
+//! Laws of the clocks of a run, beside the clocks of the run without the messages of a master.
 
 ghost use Rattle.std.specs.Prelude.{◌≡◌, List, Some, true};
 ghost use Rattle.pm_base.specs.declared.events.Event.{Event};
@@ -28,10 +28,10 @@ use pm_core::books_stay_sound;
 use pm_laws::{reach_is_closed, reach_keeps_apart, rows_follow_alike, steps_keep_apart};
 use pm_run::books_of_a_run;
 
-/// The calls of a master on a clock beyond its reach are refused, and no step of its own drops an enable of such a clock. So
-/// paired core steps keep clocks beyond the reach equal, if books and clock trees agreed there, and a call of a master beyond
-/// on such a clock is answered the same; and the clocks of a run beyond the reach of a master are, line by
-/// line, those of the run without its messages.
+/// Beyond the reach of a master, the clocks of a run and of the run without its messages are the same, line by line.
+/// The master's calls on a clock beyond are refused, and no step of its own drops an enable of such a clock. So core
+/// steps beside one another keep these clocks equal, if books and clock trees agreed before. A call of a master
+/// beyond on such a clock is answered alike.
 pub fn clocks_keep_apart()
     ensures cores { (m : NodeId) (es fs : List Event) (a b : State) (s t : Tree) → AreObjects a.fixed
         → IsWellFormed a.fixed.topology → IsSound a → IsSound b → Beside a.fixed.object a.fixed.topology m es fs

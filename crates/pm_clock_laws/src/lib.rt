@@ -1,4 +1,4 @@
-//! The clocks of two runs: beyond the reach of a master they are those of the run without its messages.
+//! The clocks of two runs: beyond the reach of a master they don't depend on its messages.
 #![tactic(auto)]
 
 mod laws;

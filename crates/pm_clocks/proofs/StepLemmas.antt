@@ -1,5 +1,5 @@
--- A step of a book over which the clocks stood: what the object in force permits stays unless another is put in force, and
--- a root changes only where its slave moved.
+-- A step of a book that the clocks fit: the permissions stay unless another object is put in force, and a root
+-- changes only if its slave moved.
 use Rattle.std.proofs.Common.{◌≡◌, ℕ, zero, suc, ◌==◌, ◌&&◌, ◌||◌, Bool, true, false, not, List, [], ◌∷◌, map, Option, Some, None, refl, ap, sym, ◌∙◌, subst}
 use Rattle.std.specs.Prelude.{slice_get}
 use Rattle.std.specs.List.{list_any}
@@ -56,7 +56,7 @@ slave_unit kinds t n s is =
     (later_passes (has_proc n.0 t.procs) (has_slave n.0 t.slaves)
     (any_here (λ (d : SlaveDef). d.node.0 == n.0) t.slaves s entry.0 entry.1 (equal entry.0.node.0 n.0 entry.2)))
 
--- a unit of the chip whose value differs moves
+-- a unit of the chip whose value changed is among those that moved
 moves : (laws : UnitLaws) (before : Unit → ℕ) (book : State) (unit : Unit) → has_unit book.fixed.topology unit ≡ true
     → (before unit == value unit book) ≡ false → has_in (moved before book) unit ≡ true
 moves laws before book unit has differs =
@@ -90,7 +90,7 @@ root_stays laws kinds before book fixed n out =
 
 -- ---- the roots
 
--- where no slave of a root is among these units, no root's is
+-- if no root's slave is among these units, this root's isn't
 no_source : (units : List Unit) (n : NodeId) → is_source (Node n) ≡ true → has_source units ≡ false → has_in units (Node n) ≡ false
 no_source [] n root none = refl
 no_source (Line line ∷ units) n root none = no_source units n root none
@@ -137,7 +137,7 @@ module _ (event : Event) (units : List Unit) (tree : Tree) (book : State) (step 
       laws.kept (view_of step.before) (view_of book) tree (alike (force event step.before others))
       (laws.permitted (view_of step.before) tree step.stood)
 
-  -- ---- an event of which nothing comes
+  -- ---- an event without any effect
 
   pub stays_on_pass : event ≡ Pass → followed (view_of book) tree ≡ tree
   stays_on_pass is =

@@ -1,4 +1,4 @@
--- The clocks over a book: what they see of it, and what a core step does to them.
+-- The clocks over a book: what they read of it, and what a core step does to them.
 use Rattle.std.specs.Prelude.{◌≡◌, ◌==◌, Bool, not, ◌&&◌, List, is_some, map, Option, Some, None}
 use Rattle.std.specs.Option.{option_map}
 use Rattle.pm_base.specs.declared.names.Mode.TheVariants.{Off}
@@ -26,7 +26,7 @@ use Rattle.pm_clock_tree.specs.Served.{response}
 use Rattle.pm_clock_tree.specs.Told.{Clocked, loaded_clocks}
 use Rattle.pm_clock_tree.specs.Tree.{Seen, Tree, loaded}
 
--- ---- what clocks see of a book
+-- ---- the part of a book that clocks read
 
 -- a node of this kind is a slave
 abbrev pub is_slave : Kind → Bool
@@ -43,7 +43,7 @@ view_of book = record {
   is_on = is_on book;
 }
 
--- its masters in object order
+-- the nodes of the masters, in object order
 abbrev pub node_of : MasterRec → NodeId
 node_of master = record { 0 = master.node }
 
@@ -60,22 +60,22 @@ clocks_of book = loaded_clocks (masters_of book) (view_of book)
 
 -- ---- a core step
 
--- the call on a clock that a core event makes, with its sender, where the book replies to it. A message that the book
--- drops makes none
+-- the call on a clock that a core event makes, with its sender, if the book replies to it; a dropped message makes
+-- none
 abbrev pub made : Event → Answer → Option (NodeId × ClockCall)
 made (Ipi sender message) (Reply master reply) = option_map (λ call. (sender, call)) (clock_call message)
 made event answer = None
 
--- the tree after a core event that the book answers so, and after which the book is this
+-- the clock tree after a core event, by the event, the book's answer and the book after it
 abbrev pub tree_after : Event → Answer → State → Tree → Tree
 tree_after event answer book tree = after_step (view_of book) (made event answer) tree
 
--- a response in place of the one of a reply
+-- a reply with this response in place of its own; any other answer stays
 abbrev pub with_response : Response → Answer → Answer
 with_response response (Reply master reply) = Reply master response
 with_response response answer = answer
 
--- the answer as it is told: the clocks' response is in place of the book's, and any other answer is the book's
+-- the answer that is told: with the clocks' response if they served a call, else the book's
 abbrev pub answered : Seen → Tree → Option (NodeId × ClockCall) → Answer → Answer
 answered seen tree None answer = answer
 answered seen tree (Some call) answer = with_response (response seen call.0 call.1 tree) answer
@@ -83,12 +83,12 @@ answered seen tree (Some call) answer = with_response (response seen call.0 call
 abbrev pub clock_answer : Event → Answer → State → Tree → Answer
 clock_answer event answer book tree = answered (view_of book) tree (made event answer) answer
 
--- the clocks stand over a book: no master enables a clock while it is off or may not use the clock's slave, and the roots
--- are as their slaves are
+-- the clocks fit a book: no master enables a clock while it is off or may not use the clock's slave, and each root is
+-- as its slave is
 abbrev pub StandsOver : State → Tree → Type 0
 StandsOver book tree = Stands (view_of book) tree
 
--- with this event a book was stepped over, from one over which the clocks stood to this one, and these units moved
+-- this event stepped a book that the clocks fitted to this book, and these units moved
 pub record HasStepped (event : Event) (units : List Unit) (tree : Tree) (after : State) : Type 0 where
   pub before : State
   pub book : after ≡ effect event before

@@ -1,4 +1,4 @@
-//! The clocks of a book, step by step.
+//! The clocks of a book, brought up to date after each of its steps.
 
 ghost use Rattle.std.specs.Prelude.{◌≡◌, ◌↔◌, IfOk, IsTrue, [], false, map};
 ghost use Rattle.pm_clocks.specs.Clocked.{HasStepped, StandsOver, clock_answer, clocks_of, made, masters_of, node_of, tree_after, view_of, with_response};
@@ -20,8 +20,8 @@ use pm_topology::{kinds_are_exact, units_stand_in_order};
 use std::alloc::Global;
 use std::marker::Model;
 
-/// The clocks of a book: who enables which, what was chosen for each, and which of them run. Contracts see the clock tree,
-/// and which clocks ran when they were told of last.
+/// The clocks of a book: which master enables which clock, the divider and the parent that were set, and which clocks
+/// run. Contracts see the clock tree, and the clocks that ran when changes were last told.
 #[derive(Drop)]
 pub struct Clocks {
     tree: ClockTree,
@@ -51,16 +51,19 @@ impl Clocks {
         Ok(Clocks { tree })
     }
 
-    /// Serves the message that the book has just stepped over, if it is a call on a clock and the book replied to it: the
-    /// clocks' response is then in the outbox in place of the book's. The checks of such a call come in this order. There
-    /// is no such clock, or it is a root and the call isn't CLOCK_GETSTATE: 2003. A divider isn't from 1 to 63, or an index
-    /// isn't that of a parent: 15. The call isn't one that only asks, and the object in force doesn't let the caller use the
-    /// clock's slave: 2002. The call sets the divider or the parent, and another master enables the clock: 2007, with the
-    /// first such master in object order. A refused call changes nothing.
+    /// Brings the clocks up to date after the book's step. If the event is a call on a clock to which the book
+    /// replied, the clocks serve it, and their response replaces the book's in the outbox. These are its checks, in
+    /// their order:
     ///
-    /// Then the enables of masters that are off are dropped, and after the call that puts an object in force those that the
-    /// object in force doesn't permit; and the roots follow their slaves. After an event of which nothing comes no clock is
-    /// looked at.
+    /// - There is such a clock, and it is no root unless the call is CLOCK_GETSTATE; else 2003.
+    /// - A divider is from 1 to 63, and an index that of a parent; else 15.
+    /// - The object in force lets the caller use the clock's slave, unless the call only asks; else 2002.
+    /// - No other master enables the clock, if the call sets the divider or the parent; else 2007, with the first
+    ///   such master in object order.
+    ///
+    /// A refused call changes nothing. After that the enables of masters that are off are dropped. After
+    /// SET_CONFIGURATION so are those that the new object doesn't permit. At last the roots follow their slaves: a
+    /// root runs if its slave is in a state other than 0. An event without any effect costs no look at a clock.
     #[inline(always)]
     pub fn answer(&mut self, book: &Book, event: &Event, out: &mut Outbox)
         requires stepped { HasStepped event.now out.old.moved.items self.old.tree book.now }
@@ -84,8 +87,8 @@ impl Clocks {
             .follow(&scene, out.moved.as_slice(), !configures(event));
     }
 
-    /// Serves the call on a clock that an event makes, if the book replied to it. What is told then is in place of the
-    /// book's answer.
+    /// Serves the call on a clock that the event makes, if the book replied to it. The clocks' response replaces the
+    /// book's.
     #[inline]
     fn serve(&mut self, scene: &BookScene, event: &Event, answer: &mut Answer)
         ensures clocks { self.new
@@ -99,7 +102,7 @@ impl Clocks {
         }
     }
 
-    /// Serves a call of a master on a clock. What is told is in place of the book's answer.
+    /// Serves a master's call on a clock. The clocks' response replaces the book's in `answer`.
     #[inline(never)]
     fn serve_call(
         &mut self,
@@ -117,7 +120,7 @@ impl Clocks {
         *answer = with_response(response, *answer);
     }
 
-    /// Whether a clock runs, as the book was that `load` or `answer` was last given: false if there is no such clock.
+    /// Whether a clock runs, as of the last `load` or `answer`; false if there is no such clock.
     pub fn runs(&self, number: u32) -> bool
         ensures runs { result ≡ spec.runs number self.now.tree }
         ensures by_parents { IsTrue result ↔ Runs self.now.tree number }
@@ -125,21 +128,21 @@ impl Clocks {
         self.tree.runs(number)
     }
 
-    /// What a clock divides by, and 0 of a root or if there is no such clock.
+    /// The divider of a clock, 1 to 63; 0 for a root, or if there is no such clock.
     pub fn divider(&self, number: u32) -> u32
         ensures { result ≡ spec.divider number self.now.tree }
     {
         self.tree.divider(number)
     }
 
-    /// The index of the parent of a clock, and 0 of a root or if there is no such clock.
+    /// The index of a clock's parent; 0 for a root, or if there is no such clock.
     pub fn index(&self, number: u32) -> u32
         ensures { result ≡ spec.index number self.now.tree }
     {
         self.tree.index(number)
     }
 
-    /// Whether a clock may have begun or ceased to run since they were told of.
+    /// Whether a clock may have started or stopped since the last `tell`. If not, `change` has nothing to tell.
     pub fn has_changes(&self) -> bool
         ensures changes { result ≡ false → changes self.now ≡ [] }
         ensures still { result ≡ false → told self.now ≡ self.now }
@@ -147,21 +150,21 @@ impl Clocks {
         self.tree.has_changes()
     }
 
-    /// The change of a clock since they were told of, if it changed. A root is never told of.
+    /// The start or stop of a clock since the last `tell`, if there was one. Roots are never told.
     pub fn change(&self, number: u32) -> Option<ClockChange>
         ensures { result ≡ change_at number self.now }
     {
         self.tree.change(number)
     }
 
-    /// A clock with what was chosen for it, if it is no root and runs.
+    /// A clock with its divider and parent for the end of a run, if it runs and is no root.
     pub fn end(&self, number: u32) -> Option<ClockEnd>
         ensures { result ≡ end_at number self.now.tree }
     {
         self.tree.end(number)
     }
 
-    /// All clocks are told of as they are.
+    /// Marks all changes as told: `change` speaks of later ones from now on.
     pub fn tell(&mut self)
         ensures { self.new ≡ told self.old }
     {
@@ -169,7 +172,7 @@ impl Clocks {
     }
 }
 
-/// The nodes of these masters.
+/// The nodes of these masters, in order. Fails with `NoMemory` if there is not enough memory.
 fn nodes(alloc: Global, masters: &[MasterRec]) -> Result<List<NodeId>, NoMemory>
     ensures { IfOk result (λ nodes. nodes ≡ map node_of masters.now) }
 {

@@ -1,4 +1,4 @@
-//! The clocks over a book: what they see of it, what a step of it does to them, and their response in place of the
+//! The clocks over a book: what they read of it, what its steps do to them, and their responses in place of the
 //! book's (UG1200, PM_CLOCK_ENABLE to PM_CLOCK_GETPARENT).
 #![tactic(auto)]
 

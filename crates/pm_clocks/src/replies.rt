@@ -1,4 +1,4 @@
-//! The calls on clocks to which a book replies, and the response in place of the book's.
+//! The calls on clocks to which a book replies, and the responses that replace the book's.
 
 ghost use Rattle.std.specs.Prelude.{◌≡◌};
 ghost use Rattle.pm_clocks.specs.Clocked.{made, with_response};
@@ -8,7 +8,7 @@ use pm_clock_tree::{ClockCall, decode_clock_call};
 use pm_core::Answer;
 use pm_ipi::Response;
 
-/// The call on a clock that an event makes, with its sender, if the book replies to it.
+/// The call on a clock that an event makes, with its sender; None for another event, or if the book doesn't reply.
 #[inline]
 pub(crate) fn made(event: &Event, answer: &Answer) -> Option<(NodeId, ClockCall)>
     ensures { result ≡ made event.now answer.now }
@@ -25,7 +25,7 @@ pub(crate) fn made(event: &Event, answer: &Answer) -> Option<(NodeId, ClockCall)
     }
 }
 
-/// A response in place of the one of a reply. Any other answer stays.
+/// A reply with this response in place of its own. Any other answer stays.
 pub(crate) fn with_response(response: Response, answer: Answer) -> Answer
     ensures { result ≡ with_response response answer }
 {

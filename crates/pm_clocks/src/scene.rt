@@ -1,4 +1,4 @@
-//! What clocks see of a book.
+//! The part of a book that clocks read.
 
 ghost use Rattle.std.specs.Prelude.{◌≡◌};
 ghost use Rattle.pm_clocks.specs.Clocked.{is_slave};
@@ -9,7 +9,7 @@ use pm_core::Book;
 use pm_procs::same_mode;
 use pm_topology::Kind;
 
-/// A book as clocks see it.
+/// A book as the clocks read it.
 #[derive(Drop)]
 pub(crate) struct BookScene<'b> {
     pub(crate) book: &'b Book,
@@ -25,12 +25,12 @@ impl<'b> Scene for BookScene<'b> {
         same_mode(self.book.master_mode(master), Mode::Off)
     }
 
-    /// Whether the object in force lets a master use a slave: it has a row then.
+    /// Whether the object in force lets a master use a slave: the master then has a row on it.
     fn may_use(&self, master: NodeId, slave: NodeId) -> bool {
         self.book.row(master, slave).is_some()
     }
 
-    /// Whether a node is a slave in another state than 0.
+    /// Whether a node is a slave in a state other than 0.
     fn is_on(&self, slave: NodeId) -> bool {
         is_slave(self.book.topology().kind(slave)) && self.book.value(Unit::Node(slave)) != 0
     }

@@ -171,7 +171,7 @@ proc_self fixed border procs nobodys p x is =
     let Q : Option Proc → Type 0 = λ o. (unwrap_or o off).mode ≡ Off in
     subst P same (record { beyond = λ m owner beyond. refl; nobodys = λ none. (subst Q is (nobodys p none), subst Q is (nobodys p none)) })
 
--- in the notes of each master the units stand in order
+-- in the notes of each master the units rise
 master_notes_order : UnitLaws → (book : State) → HasNotes book → (m : ℕ) (notes : MasterNotes) → slice_get book.now.talk.notes m ≡ Some notes → rises (units_in notes) ≡ true
 master_notes_order units book sound m notes is =
     let there : m < length book.fixed.object.masters = subst (λ n. m < n) sound.each (slice_get_within book.now.talk.notes m notes is) in
@@ -179,7 +179,7 @@ master_notes_order units book sound m notes is =
     ap (λ x. rises (units_in x)) (sym own) ∙ (ap rises (sound.units m there) ∙ (units.are book.fixed.topology).rising)
 
 module _ (border : Border) (book : State) (closed : IsClosed book.fixed border) (sound : IsSound book) where
-  -- where no master is beyond no object of the run lets anybody reset a line beyond
+  -- without a master beyond, no object of the run lets anybody reset a line beyond
   unreset : (m l : ℕ) (may : Bool) → may_be_reset book.fixed m l ≡ may → border.some ≡ false → border.line l ≡ true → may ≡ false
   unreset m l false is none beyond = refl
   unreset m l true is none beyond = clash border.some (closed.some m (closed.lines m l is beyond)) none

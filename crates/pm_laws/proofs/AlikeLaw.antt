@@ -1,4 +1,4 @@
--- What is the same of two lines whose core steps are beside one another: list by list, over the core steps of each.
+-- Two lines whose core steps are beside one another agree, list by list over the core steps of each.
 use Rattle.std.proofs.Common.{◌≡◌, ◌==◌, Bool, true, false, not, ◌&&◌, if◌then◌else◌, List, [], ◌∷◌, ◌++◌, flat_map, length, refl, ap, sym, ◌∙◌, subst}
 use Rattle.pm_laws.proofs.Common.{Agree, AreObjects, Border, Both, Event, Fixed, Ipi, IsWellFormed, NodeId, Pass, State, border_of, none_within, place_of}
 use Rattle.pm_base.proofs.Booleans.{equal, pair_of, both as both_pass}
@@ -43,7 +43,7 @@ module _ (c : Setup) (m : NodeId) where
     flat _ _ _ _ (rest_core a b y xs ys event first agree nothing later) =
         flat a y.after xs ys later ∙ sym (ap (λ l. l ++ flat_map f ys) (still y event nothing))
 
-  -- where only what is told decides
+  -- lists that depend only on what is told
   told : {X : Type 0} (f : Core → List X)
       → ((x y : Core) → SameTold c.object c.topology border x y → f x ≡ f y)
       → ((x : Core) → TellsNothing c.object c.topology border x → f x ≡ [])
@@ -53,7 +53,7 @@ module _ (c : Setup) (m : NodeId) where
 
   -- ---- drops and answers
 
-  -- where a test holds of both the same stands in the list
+  -- if a test holds of both, their lists have equal elements
   one_if : {X : Type 0} (t : Bool) (x y : X) → (t ≡ true → x ≡ y) → (if t then x ∷ [] else []) ≡ (if t then y ∷ [] else [])
   one_if true x y same = ap (λ z. z ∷ []) (same refl)
   one_if false x y same = refl

@@ -1,5 +1,5 @@
--- Rows that are made anew of an object of the run: in both books they are alike beyond the border, and where no master is beyond
--- none of them is on a slave beyond.
+-- Rows that are made anew by an object of the run. In both books they are alike beyond the border; without a master
+-- beyond none of them is on a slave beyond.
 use Rattle.std.proofs.Common.{◌≡◌, ℕ, Bool, true, false, ◌&&◌, ◌||◌, ◌==◌, cond, if◌then◌else◌, is_some, List, [], ◌∷◌, map, Option, Some, None, refl, sym, ◌∙◌, ap, subst}
 use Rattle.std.specs.Prelude.{find}
 use Rattle.std.specs.Option.{option_map}
@@ -71,7 +71,7 @@ module _ (border : Border) (known other : List Mode) (alike : (m : ℕ) → IsBe
   rows_anew all [] each fits = tt
   rows_anew all (p ∷ ps) each fits = (row_anew all each p fits.0, rows_anew all ps each fits.1)
 
--- the rows at load are the same in both
+-- the rows at load are alike in both books
 rows_load : (border : Border) (boot : ℕ) (ps : List Permitted) → Each (IsFitting border) ps
     → Both (SameRow border) (map loaded_entry (map (seed_at_load boot) ps)) (map loaded_entry (map (seed_at_load boot) ps))
 rows_load border boot [] fits = tt
@@ -100,7 +100,7 @@ load_within border some none boot (p ∷ ps) fits =
 
 -- ---- all rows
 
--- where some master is beyond, in both books
+-- in both books, if some master is beyond
 pub rows_anew_alike : (border : Border) → border.some ≡ true → (known other : List Mode) → ((m : ℕ) → IsBeyond border m → mode_in m known ≡ mode_in m other)
     → (all : List Permitted) → Each (IsFitting border) all
     → SameRows border border.some (map loaded_entry (map (seed_anew known all) all)) (map loaded_entry (map (seed_anew other all) all))
@@ -114,7 +114,7 @@ rows_load_alike border some boot all fits =
     let P : Bool → Type 0 = λ b. SameRows border b (map loaded_entry (map (seed_at_load boot) all)) (map loaded_entry (map (seed_at_load boot) all)) in
     subst P (sym some) (rows_load border boot all fits)
 
--- where none is, in one of them
+-- in one book, if no master is beyond
 pub rows_alone_new : (border : Border) → border.some ≡ false → (a b new : List Entry) → Each (IsWithin border) new → SameRows border border.some a b → SameRows border border.some new b
 rows_alone_new border none a b new within same =
     let P : Bool → Type 0 = λ some. SameRows border some a b in

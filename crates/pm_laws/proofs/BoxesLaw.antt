@@ -40,7 +40,7 @@ module _ (object : Object) (t : Topology) (m : NodeId) where
   beside_append _ _ later others (left event es fs own first) beside = left event (es ++ later) (fs ++ others) own (beside_append es fs later others first beside)
   beside_append _ _ later others (rest es fs first) beside = rest (es ++ later) (fs ++ others) (beside_append es fs later others first beside)
 
-  -- a Pass is the only event of the quiet line where all others are the master's
+  -- the quiet line has only a Pass if all events of the line are the master's
   rest_alone : (es fs : List Event) → fs ≡ [] → Beside object t m es fs → Beside object t m es (Pass ∷ [])
   rest_alone _ _ is none = rest [] [] none
   rest_alone _ _ is (both event es fs later) = cc
@@ -199,7 +199,7 @@ module _ (object : Object) (t : Topology) (m : NodeId) where
         record { events = left (Ipi node message) [] (Pass ∷ []) (eqb-true node.0 m.0 is) (rest [] [] none); boxes = refl; busy = refl }
     sent_split node message false is = record { events = both (Ipi node message) [] [] none; boxes = refl; busy = refl }
 
-    -- a power call: where the master is 1 all that it comes to is the master's, and else the same in both worlds
+    -- a power call: if the master is 1 all its events are the master's, else they are equal in both worlds
     call_split : (rules : ObeysMasterRules t) (proc : NodeId) (function : ℕ) (args : List ℕ) (mine : Bool) → (m.0 == 1) ≡ mine
         → IsSplitBeside object t m (split_of object t (Smc proc function args) loud) (split_of object t (if mine then Pass else Smc proc function args) quiet_boxes)
     call_split rules proc function args true is = record { events = calls_left object t m rules (eqb-true m.0 1 is) (call proc function args); boxes = refl; busy = refl }

@@ -28,7 +28,7 @@ use Rattle.pm_laws.proofs.TellingsLaw.{after_alike, found_alike, found_hidden, l
 
 -- ---- lists
 
--- what is made of elements passes a test where they pass another one
+-- mapped elements pass a test if the elements pass another one
 filter_map : {X Y : Type 0} (test : Y → Bool) (p : X → Bool) (f : X → Y) → ((x : X) → test (f x) ≡ p x) → (xs : List X)
     → filter test (map f xs) ≡ map f (filter p xs)
 filter_map test p f same [] = refl
@@ -40,7 +40,7 @@ filter_map {X} {Y} test p f same (x ∷ xs) =
     at true later = ap (λ ys. f x ∷ ys) later
     at false later = later
 
--- what is made of those that pass a test by two functions that are the same there
+-- the mapped elements that pass are equal for two functions that agree on the passing elements
 map_filter : {X Y : Type 0} (p : X → Bool) (f g : X → Y) → ((x : X) → p x ≡ true → f x ≡ g x) → (xs : List X) → map f (filter p xs) ≡ map g (filter p xs)
 map_filter p f g same [] = refl
 map_filter {X} {Y} p f g same (x ∷ xs) = at (p x) refl (map_filter p f g same xs)
@@ -110,7 +110,7 @@ module _ (object : Object) (border : Border) where
 
     -- ---- a master beyond
 
-    -- it is asked where it is so of masters beyond alone
+    -- it is asked, if only masters beyond are asked so
     asked_alone : (asked : Option Asked) → IsBeyond border k → asks_to k master asked ≡ asks_to k master (asks_beyond border asked)
     asked_alone None beyond = refl
     asked_alone (Some asked) beyond = at (border.master asked.target) refl

@@ -1,4 +1,4 @@
--- A call of a master beyond that names nothing within comes to the same in two books that agree.
+-- A call of a master beyond that names nothing within has the same outcome in two books that agree.
 use Rattle.std.proofs.Common.{◌≡◌, ℕ, ◌+◌, Bool, true, false, not, ◌&&◌, ◌||◌, ◌==◌, if◌then◌else◌, position, Option, Some, None, refl, sym, ◌∙◌, ap}
 use Rattle.std.specs.Prelude.{option_map}
 use Rattle.std.proofs.lemmas.Bool.{eqb-true}
@@ -45,7 +45,7 @@ never : (a b : Bool) → ((a && false) && b) ≡ false
 never true b = refl
 never false b = refl
 
--- it says the same of two rows that are alike, if it passes none on another slave
+-- a test holds of two alike rows or of neither, if it holds of no row on another slave
 pub on_slave : (border : Border) (test : Entry → Bool) (s : ℕ) (x y : Entry) → border.slave s ≡ true
     → ((z : Entry) → (z.seed.slave == s) ≡ false → test z ≡ false)
     → SameRow border x y → test x ≡ test y

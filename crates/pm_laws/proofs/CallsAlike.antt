@@ -82,7 +82,7 @@ pub kept : (b : Bool) → not b ≡ false → b ≡ true
 kept true is = refl
 kept false is = cc
 
--- the node of a rival, where there is one
+-- the node of a rival, if there is one
 abbrev rival_by : Fixed → Option Entry → Option NodeId
 rival_by fixed rival = option_map (master_node fixed.object.masters) (option_map (λ (entry : Entry). entry.seed.master) rival)
 
@@ -107,7 +107,7 @@ proc_view_alike fixed border m _ a b beyond same = refl
 
 -- ---- the view of a processor that is to wake
 
--- where some master is beyond the same is permitted in both
+-- if some master is beyond, both books permit the same
 pub grants_alike : (fixed : Fixed) (border : Border) (a b : Now) → border.some ≡ true → Same fixed border a b → grants_in (book_of fixed a) ≡ grants_in (book_of fixed b)
 grants_alike fixed border a b some same = ap (λ (o : Object). grants_of o fixed.topology) (same.force some)
 

@@ -80,7 +80,7 @@ put_hidden : (border : Border) (m : ℕ) (place : Option ℕ) (mode : Mode) (add
 put_hidden border m None mode address within = refl
 put_hidden border m (Some p) mode address within = one_hidden border (Put_proc m p mode address) within
 
--- nor is it seen where a master within goes on in place of suspending
+-- nor is the change seen by which a master within goes on in place of suspending
 going_hidden : (border : Border) (m : ℕ) (view : ProcView) (suspending : Bool) → border.master m ≡ false → IsUnseen border (if suspending then proc_changes m Active (address_in view) view else [])
 going_hidden border m view true within = put_hidden border m view.place Active (address_in view) within
 going_hidden border m view false within = refl
@@ -126,7 +126,7 @@ slave_hides border m s by plain within =
     ap (λ b. border.master m && (b || is_arming by)) within
     ∙ (ap (λ b. border.master m && (false || b)) plain ∙ none_seen (border.master m))
 
--- another object in force is seen where some master is beyond, and then nobody within may put it there
+-- another object in force is seen if some master is beyond; then nobody within may put it in force
 found_hidden : (border : Border) (m : ℕ) (found : Found) (book : State) → HasClosed border book → border.master m ≡ false → permits_configure (grants_in book) m ≡ true → IsUnseen border (enforced_by found)
 found_hidden border m Nothing book closed within may = refl
 found_hidden border m (Unreadable fault) book closed within may = refl

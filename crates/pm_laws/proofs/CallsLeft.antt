@@ -1,5 +1,5 @@
--- What a power call comes to is all the master's whose messages it sends: its message, and its wait, since by the rules
--- on masters no other one has the processor.
+-- The events of a power call are all the master's whose messages it sends: its message, and its wait, since by the
+-- rules on masters no other master has the processor.
 use Rattle.std.proofs.Common.{◌≡◌, ◌≢◌, ℕ, ℤ, zero, suc, ◌==◌, ◌&&◌, ◌||◌, Bool, true, false, if◌then◌else◌, cond, is_some, length, nat_lt, List, [], ◌∷◌, Option, Some, None, find, position, refl, ap, sym, ◌∙◌, subst}
 use Rattle.std.specs.Prelude.{slice_get}
 use Rattle.std.specs.List.{list_any, position_or_len}

@@ -17,7 +17,7 @@ seen_made laws fixed border [] a b some same = same
 seen_made laws fixed border (prim ∷ prims) a b some same =
     first_made laws fixed border prim (seen_part border prims) prims a b (seen border prim) some refl same (λ x y is. seen_made laws fixed border prims x y some is)
 
--- two lists of changes with the same seen part, one made in each book, where some master is beyond
+-- two lists of changes with the same visible part, one made in each book, if some master is beyond
 pub changes_alike : BelowLaws → (fixed : Fixed) (border : Border) (ps qs : List Prim) (a b : Now) → border.some ≡ true → seen_part border ps ≡ seen_part border qs → Same fixed border a b → Same fixed border (applies fixed ps a) (applies fixed qs b)
 changes_alike laws fixed border ps qs a b some is same =
     let turned : Same fixed border b a = same_sym fixed border a b same in

@@ -125,7 +125,7 @@ all_hidden border fixed true some none = (offs_hidden border fixed All (all_take
 pub may_shut_down : (grants : Grants) (m shutdown_type subtype : ℕ) → (shutdown_type == 2) ≡ false → AllHold (system_shutdown_checks grants m shutdown_type subtype) → permits_shut grants m subtype ≡ true
 may_shut_down grants m shutdown_type subtype no_scope all = sym (ap (λ b. b || permits_shut grants m subtype) no_scope) ∙ all.permitted
 
--- so where a master within may shut down more than itself, no master is beyond
+-- so no master is beyond if a master within may shut down more than itself
 pub none_beyond : (border : Border) (book : State) (m subtype : ℕ) → HasClosed border book → border.master m ≡ false → (subtype == 0) ≡ false → permits_shut (grants_in book) m subtype ≡ true → border.some ≡ false
 none_beyond border book m subtype closed within more may =
     within_by border.some (border.master m) (closed.closed.shuts m subtype more (by_one book (λ g. permits_shut g m subtype) closed.force may)) within

@@ -125,7 +125,7 @@ module _ (border : Border) (aborts count : Option ℕ) where
 
 -- ---- hidden events
 
--- where a master is beyond no time passes in a hidden event
+-- if a master is beyond, no time passes in a hidden event
 pub no_time : (border : Border) (event : Event) (book : State) → border.some ≡ true → is_hidden border event book ≡ true → time_of event book ≡ None
 no_time border (Tick count) book some is = clash border.some some (turned border.some is)
 no_time border _ book some is = refl

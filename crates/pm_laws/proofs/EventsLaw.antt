@@ -89,12 +89,12 @@ event_hidden laws border _ book closed is = tt
 
 -- ---- all other events
 
--- where a master at a place is beyond, some is
+-- if the master at a place is beyond, some master is
 some_place : (border : Border) (place : Option ℕ) → HasSome border → is_within border place ≡ false → border.some ≡ true
 some_place border None some is = cc
 some_place border (Some m) some is = some m (kept (border.master m) is)
 
--- so some is where an event isn't hidden
+-- so some master is beyond if an event isn't hidden
 pub some_beyond : (border : Border) (event : Event) (book : State) → HasSome border → is_hidden border event book ≡ false → border.some ≡ true
 some_beyond border (Ipi master message) book some is =
     some_place border (master_place master book) some (neither (is_within border (master_place master book)) (changes_within border (call_of message) book) is).0
@@ -159,7 +159,7 @@ halted_alike border true false first second is alike = cc
 halted_alike border false true first second is alike = cc
 halted_alike border false false first second is alike = alike
 
--- where the owner of a processor is beyond, some master is
+-- if the owner of a processor is beyond, some master is
 owner_some : (border : Border) (owner : Option ℕ) → HasSome border → is_within border owner ≡ false → border.some ≡ true
 owner_some border None some is = cc
 owner_some border (Some m) some is = some m (kept (border.master m) is)

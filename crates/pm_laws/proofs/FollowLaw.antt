@@ -90,7 +90,7 @@ follow_rests book knows =
 
 -- ---- stages
 
--- two stages with the same seen part, where some master is beyond
+-- two stages with the same visible part, if some master is beyond
 pub stage_agrees : BelowLaws → (border : Border) (ps qs : List Prim) (a b : State) → border.some ≡ true → seen_part border ps ≡ seen_part border qs → Agree border a b → Agree border (after_stage ps a) (after_stage qs b)
 stage_agrees laws border ps qs a b some is agree =
     let after : Agree border (changed ps a) (changed qs b) = changes_agree laws border ps qs a b some is agree in

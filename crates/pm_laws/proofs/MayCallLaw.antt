@@ -1,4 +1,4 @@
--- A master beyond is heard in both of two books that agree, or in neither; and, where one is beyond, both are halted or neither.
+-- Two books that agree both hear a master beyond, or neither does; and if one is beyond, both or neither are halted.
 use Rattle.std.proofs.Common.{◌≡◌, ℕ, not, ◌&&◌, ◌∙◌, ap}
 use Rattle.pm_laws.proofs.Common.{BelowLaws, Border, Fixed, IsBeyond, Now, Same, is_awake, may_call, mode_of_master}
 use Rattle.pm_laws.proofs.CallsAlike.{book_of}

@@ -1,4 +1,4 @@
--- What becomes of the notes of the masters in a step: the same is seen of them beyond where what the step has to tell is alike.
+-- The changes of the masters' notes in a step have the same visible part if what the step has to tell is alike.
 use Rattle.std.proofs.Common.{◌≡◌, ℕ, ◌+◌, Bool, true, false, ◌&&◌, cond, if◌then◌else◌, List, [], ◌∷◌, ◌++◌, None, refl, sym, ◌∙◌, ap}
 use Rattle.std.specs.Prelude.{flat_map, map}
 use Rattle.std.proofs.lemmas.List.Elements.{filter-append}

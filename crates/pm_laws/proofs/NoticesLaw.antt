@@ -54,7 +54,7 @@ beyond_append border a b c d first second =
 
 -- ---- requests that ended
 
--- where its node is beyond, its target is
+-- if its node is beyond, so is its target
 abbrev pub NamesTarget : Border → Ended → Type 0
 NamesTarget border e = border.node e.request.node.0 ≡ true → border.master e.target ≡ true
 
@@ -134,7 +134,7 @@ module _ (border : Border) where
       at true = none_beyond border (w ∷ []) (within.0, tt)
       at false = refl
 
-  -- the same is wanted by notes that are alike
+  -- alike notes ask for the same
   wanted_alike : (x y : MasterNotes) → Both (SameEntry border) x y → (w : Waiting) (note : Note) → is_wanted x w note ≡ is_wanted y w note
   wanted_alike x y same w (Ack status) = refl
   wanted_alike x y same w Change = ap (asks event.Change) (notes_same border w.node x y same).notifiers
@@ -211,7 +211,7 @@ module _ (fixed : Fixed) (border : Border) (closed : IsClosed fixed border) (som
           ≡ notes_beyond border (flat_map (noticed_by y) (notifications (book_of fixed b) (book_of fixed d)))
       notices_alike = among (units_of fixed.topology)
 
-  -- nothing happens where a book stays
+  -- nothing happens if a book stays
   lost : (b : Bool) → (b && not b) ≡ false
   lost true = refl
   lost false = refl

@@ -54,7 +54,7 @@ found_alike : {X : Type 0} (b : Bool) (x y : X) (first second : Option X) → (b
 found_alike true x y first second here later = ap (λ z. Some z) (here refl)
 found_alike false x y first second here later = later
 
--- what passes a test on which related elements agree is found in both, and equal where related elements that pass are
+-- a test on which related elements agree finds both or none; what it finds is equal if related elements that pass are
 pub Both-find : {X : Type 0} (R : X → X → Type 0) (p : X → Bool) → ((x y : X) → R x y → p x ≡ p y) → ((x y : X) → R x y → p x ≡ true → x ≡ y) → (xs ys : List X) → Both R xs ys → find p xs ≡ find p ys
 Both-find R p agree each [] [] same = refl
 Both-find R p agree each [] (y ∷ ys) same = absurd same
@@ -126,7 +126,7 @@ BothFrom-set_left R k n zero x is here (u ∷ xs) (v ∷ ys) same =
 BothFrom-set_left R k n (suc p) x is here (u ∷ xs) (v ∷ ys) same =
     (same.0, BothFrom-set_left R (k + 1) n p x (omega (arith, is)) here xs ys same.1)
 
--- the same where what is set follows from what stood there
+-- so, if the new element follows from the old one
 pub BothFrom-set_at : {X : Type 0} (R : ℕ → X → X → Type 0) (k n p : ℕ) (x : X) → n ≡ k + p → (xs ys : List X)
     → ((u v : X) → slice_get xs p ≡ Some u → R n u v → R n x v) → BothFrom R k xs ys → BothFrom R k (slice_set xs p x) ys
 BothFrom-set_at R k n p x is [] [] here same = tt
@@ -138,7 +138,7 @@ BothFrom-set_at R k n zero x is (u ∷ xs) (v ∷ ys) here same =
 BothFrom-set_at R k n (suc p) x is (u ∷ xs) (v ∷ ys) here same =
     (same.0, BothFrom-set_at R (k + 1) n p x (omega (arith, is)) xs ys here same.1)
 
--- what stands at a place of both, or for both past the end
+-- the elements at a place of both lists, or none past both ends
 pub BothFrom-get : {X : Type 0} (R : ℕ → X → X → Type 0) (P : X → X → Type 0) (k n p : ℕ) (d : X) → n ≡ k + p → P d d → ((x y : X) → R n x y → P x y) → (xs ys : List X) → BothFrom R k xs ys → P (unwrap_or (slice_get xs p) d) (unwrap_or (slice_get ys p) d)
 BothFrom-get R P k n p d is none each [] [] same = none
 BothFrom-get R P k n p d is none each [] (v ∷ ys) same = absurd same
@@ -179,7 +179,7 @@ map_among test f g itself (x ∷ xs) alike =
 
 -- ---- the rest of a list
 
--- these stand in a list from a place on
+-- these elements are in a list from a place on
 abbrev pub StandsFrom : {X : Type 0} → List X → ℕ → List X → Type 0
 StandsFrom {X} whole k part = (i : ℕ) (x : X) → slice_get part i ≡ Some x → slice_get whole (k + i) ≡ Some x
 
@@ -193,7 +193,7 @@ stands_later whole k x part stands i y is =
 pub stands_from_start : {X : Type 0} (whole : List X) → StandsFrom whole 0 whole
 stands_from_start whole i x is = let at : 0 + i ≡ i = omega arith in ap (λ n. slice_get whole n) at ∙ is
 
--- one entry stands at a place
+-- one entry is at a place
 pub same_entry : {X : Type 0} (x y : X) (o : Option X) → o ≡ Some x → o ≡ Some y → x ≡ y
 same_entry x y o first second = cc
 

@@ -28,7 +28,7 @@ use Rattle.pm_laws.proofs.RowFacts.{rows_alone, rows_changed_alike, rows_changed
 abbrev remade : List Entry → List Proc → List Bool → Now → Now
 remade rows procs lines now = record now { core = record now.core { rows = record now.core.rows { entries = rows }; procs = procs; lines = lines } }
 
--- where these are alike the two books stay so
+-- if these are alike, the two books stay so
 made_alike : (fixed : Fixed) (border : Border) (a b : Now) → Same fixed border a b → (xs ys : List Entry) → SameRows border border.some xs ys
     → (ps qs : List Proc) → BothFrom (SameProc fixed border) 0 ps qs → (ls ms : List Bool) → BothFrom (SameLine border) 0 ls ms
     → Same fixed border (remade xs ps ls a) (remade ys qs ms b)
@@ -122,7 +122,7 @@ reloads_alike laws fixed border a b same =
     started_alike laws fixed border (boot_proc fixed.object fixed.topology) (all_turned_off a) (all_turned_off b) refl
     (BothFrom-map (SameProc fixed border) turned_off turned_off (all_off_alike fixed border) 0 a b same)
 
--- in one book alone, where no master is beyond
+-- in one book, if no master is beyond
 alone_off : (fixed : Fixed) (border : Border) → HasSome border → border.some ≡ false → (p : ℕ) (x y : Proc) → SameProc fixed border p x y → SameProc fixed border p (turned_off x) y
 alone_off fixed border some none p x y same = record {
   beyond = λ m owner beyond. clash border.some (some m beyond) none;
@@ -148,13 +148,13 @@ reloads_unseen laws fixed border some none a b same =
 
 -- ---- the reset lines are as at load
 
--- where some master is beyond, in both books
+-- in both books, if some master is beyond
 lines_loaded_alike : (border : Border) → border.some ≡ true → (a b : List Bool) → BothFrom (SameLine border) 0 a b → BothFrom (SameLine border) 0 (all_released (length a)) (all_released (length b))
 lines_loaded_alike border some a b same =
     BothFrom-equal (SameLine border) (λ k x. record { beyond = λ is. refl; released = λ none is. clash border.some some none }) 0
     (all_released (length a)) (all_released (length b)) (ap all_released (BothFrom-length (SameLine border) 0 a b same))
 
--- where none is, in one of them: each line beyond is released in the other
+-- in one book, if no master is beyond: each line beyond is released in the other
 lines_loaded_unseen : (border : Border) → border.some ≡ false → (k : ℕ) (a b : List Bool) → BothFrom (SameLine border) k a b → BothFrom (SameLine border) k (all_released (length a)) b
 lines_loaded_unseen border none k [] [] same = tt
 lines_loaded_unseen border none k [] (y ∷ ys) same = absurd same
@@ -212,7 +212,7 @@ enforced_alike fixed border k a b (Some object) is some same =
       talk = same.talk;
     }
 
--- in one alone, where no master is beyond
+-- in one book, if no master is beyond
 enforced_unseen : (fixed : Fixed) (border : Border) (k : ℕ) (a b : Now) (o : Option Object) → object_at fixed k ≡ o → border.some ≡ false → Same fixed border a b → Same fixed border (enforced_by fixed o a) b
 enforced_unseen fixed border k a b None is none same = record {
   some = same.some;
@@ -244,7 +244,7 @@ enforced_unseen fixed border k a b (Some object) is none same =
       talk = same.talk;
     }
 
--- a change that is seen, made in both, where some master is beyond
+-- a visible change, made in both books, if some master is beyond
 pub prim_alike : BelowLaws → (fixed : Fixed) (border : Border) (prim : Prim) (a b : Now) → border.some ≡ true → seen border prim ≡ true → Same fixed border a b → Same fixed border (apply fixed prim a) (apply fixed prim b)
 prim_alike laws fixed border (At_row m s by) a b some is same =
     rows_made fixed border a b same (map (change_at m s by) a.core.rows.entries) (map (change_at m s by) b.core.rows.entries)
@@ -311,7 +311,7 @@ prim_alike laws fixed border Reload a b some is same =
     }
 prim_alike laws fixed border (Enforce k) a b some is same = enforced_alike fixed border k a b (object_at fixed k) refl some same
 
--- a change that isn't seen, made in one alone
+-- an invisible change, made in one book
 pub prim_unseen : BelowLaws → (fixed : Fixed) (border : Border) (prim : Prim) (a b : Now) → seen border prim ≡ false → Same fixed border a b → Same fixed border (apply fixed prim a) b
 prim_unseen laws fixed border (At_row m s by) a b is same =
     rows_made fixed border a b same (map (change_at m s by) a.core.rows.entries) b.core.rows.entries

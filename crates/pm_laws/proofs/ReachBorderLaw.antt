@@ -40,7 +40,7 @@ use Rattle.pm_laws.proofs.PairsLaw.{IsPermitted, pairs_permitted, permitted_use}
 use Rattle.pm_laws.proofs.Records.{IsOne, at_both, entry_of, entry_there, more_shut, one_permits, ones, own_at, placed, placed_in, shut_there, within_there, word_there}
 use Rattle.pm_laws.proofs.WithinReach.{ReachLaws, Starts, beyond_parts, lead, lead_in, lead_up, master_by, master_by_unit, unit_by}
 
--- an element at a place stands there among those with their places
+-- an element at a place is among the elements with their places
 numbered : {X : Type 0} (k : ℕ) (xs : List X) (i at : ℕ) (x : X) → at ≡ k + i → slice_get xs i ≡ Some x → slice_get (enumerate_from k xs) i ≡ Some (at, x)
 numbered k [] i at x is here = cc
 numbered k (y ∷ ys) zero at x is here = let place : k ≡ at = omega (arith, is) in let same : y ≡ x = cc in cc
@@ -74,7 +74,7 @@ module _ (laws : ReachLaws) (object : Object) (others : List Object) (t : Topolo
   each_one : Each One objects
   each_one = ones object others t objects (λ permits e. e) formed same
 
-  -- who is permitted anything by one of them stands at a place
+  -- a master to which one of them permits anything is at a place
   there_by : (m : ℕ) (permits : Grants → Bool) → ((o : Object) → permits (grants_of o t) ≡ true → m < length o.masters) → may permits ≡ true → m < masters
   there_by m permits stands e =
       let one = one_permits One t permits objects each_one e in
@@ -197,7 +197,7 @@ module _ (laws : ReachLaws) (object : Object) (others : List Object) (t : Topolo
       leads m k (within_one m (λ g. mask_at g.lines l) e)
       (λ there f r. laws.masters.reset objects t f m r k there l line is target (may_reset_at m l line is e)) beyond
 
-  -- some master beyond, where any is
+  -- some master beyond, if any is
   one_beyond : border.some ≡ true → (k : ℕ) × IsBeyond border k
   one_beyond e = let found = (laws.tests.some objects (master_beyond objects t from)).0 e in (found.0, found.2)
 
@@ -420,7 +420,7 @@ pub reach_closed_over : ReachLaws → (object : Object) (others : List Object) (
 reach_closed_over laws object others t m formed same well =
     edge_closed laws object others t formed same well (place_of object m) (place_starts object others m (place_of object m) refl)
 
--- what is so at each place of a list is so of each of it
+-- a property at each place of a list holds of each element
 each_from : {X : Type 0} (P : X → Type 0) (xs : List X) → ((k : ℕ) (x : X) → slice_get xs k ≡ Some x → P x) → Each P xs
 each_from P [] all = tt
 each_from P (x ∷ xs) all = (all 0 x refl, each_from P xs (λ k y is. all (suc k) y is))

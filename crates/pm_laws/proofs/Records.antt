@@ -1,4 +1,5 @@
--- The masters of a well-formed object by their places and by their numbers. Who is permitted anything stands at a place.
+-- The masters of a well-formed object by their places and by their numbers. A master to which anything is permitted
+-- is at a place.
 use Rattle.std.proofs.Common.{◌≡◌, ℕ, ◌<◌, ◌==◌, ◌||◌, Bool, true, false, true≢false, not, zero, suc, List, [], ◌∷◌, length, map, slice_get, position, unwrap_or, Option, Some, None, refl, ap, sym, ◌∙◌, arith, inl, inr}
 use Rattle.std.specs.Int.Bits.{and_zero_l, and_zero_r}
 use Rattle.std.specs.Option.{option_map, option_map_or}
@@ -25,7 +26,7 @@ entry_there [] k within = absurd (omega arith)
 entry_there (x ∷ xs) zero within = (x, refl)
 entry_there (x ∷ xs) (suc k) within = entry_there xs k (omega arith)
 
--- the place of the number of an entry, where no two entries have one
+-- the place of the number of an entry, if no two entries have one number
 pub own_at : {X : Type 0} (number : X → ℕ) (xs : List X) → AreDistinct number xs → (k : ℕ) (x : X) → slice_get xs k ≡ Some x
     → position (λ y. number y == number x) xs ≡ Some k
 own_at {X} number xs distinct k x is = at (position (λ y. number y == number x) xs) refl
@@ -146,7 +147,7 @@ module _ (object : Object) (others : List Object) (t : Topology) where
     ones os (λ permits may. among permits (later_passes (permits (grants_of o t)) (some_permits permits (all_grants os t)) may)) formed.1 placed.1,
   )
 
-  -- a master of one of them stands at a place of the loaded one
+  -- a master of one of them is at a place of the loaded one
   pub placed_in : GrantLaws → (o : Object) → IsOne object others t o → (m : ℕ) → m < length o.masters → m < length object.masters
   placed_in laws o one m there =
       let entry = entry_there o.masters m there in

@@ -1,5 +1,5 @@
--- The two facts of each change of rows: made in both books it keeps them alike beyond the border, and made in one alone it
--- does so where it isn't seen.
+-- The two facts of each change of rows: made in both books it keeps them alike beyond the border; invisible and made
+-- in one it does so too.
 use Rattle.std.proofs.Common.{◌≡◌, ℕ, Bool, true, false, not, ◌&&◌, ◌||◌, ◌==◌, if◌then◌else◌, List, map, refl, sym, ◌∙◌, ap, subst}
 use Rattle.std.specs.List.{list_any, AllByRecursion as Each}
 use Rattle.std.proofs.lemmas.Bool.{eqb-true}
@@ -16,7 +16,7 @@ use Rattle.pm_laws.proofs.Places.{Both-map, Both-map_left, Both-any, Each-map}
 
 -- ---- one row
 
--- an entry with another row, where a test says so
+-- an entry with another row, if a test holds
 abbrev rewritten : Bool → Row → Entry → Entry
 rewritten b row x = if b then record x { row = row } else x
 
@@ -173,7 +173,7 @@ settle_alike border m x y same =
     (ap (λ (seed : Pair). seed.master == m) same.seed) same
     (record { armed = same.armed; hold = λ is. refl; row = λ is. ap unheld (same.row is) })
 
--- nothing is seen where rows of a master within are rewritten
+-- nothing is seen of rewritten rows of a master within
 own_unseen : (border : Border) (m : ℕ) (r : Entry → Row) → border.master m ≡ false → (x y : Entry) → SameRow border x y → SameRow border (rewritten (x.seed.master == m) (r x) x) y
 own_unseen border m r within x y same =
     unseen_if border (x.seed.master == m) x y (r x) same (λ is.
@@ -278,7 +278,7 @@ pub rows_cleared_alike : (border : Border) (a b : List Entry) → SameRows borde
 rows_cleared_alike border a b same =
     rows_map border border.some cleared_entry cleared_entry a b (λ x. refl) (λ x. refl) (λ both. clear_alike border) same
 
--- where no master is beyond, rows may be rewritten in one book alone
+-- without a master beyond, rows may be rewritten in one book
 pub rows_alone : (border : Border) (f : Entry → Entry) (a b : List Entry) → ((x : Entry) → (f x).seed ≡ x.seed) → border.some ≡ false → SameRows border border.some a b → SameRows border border.some (map f a) b
 rows_alone border f a b pair none same =
     let P : Bool → Type 0 = λ some. SameRows border some a b in

@@ -6,7 +6,7 @@ use Rattle.pm_core.specs.Outbox.{HasRoomFor, Holds, KeepsRoom, Outputs}
 use Rattle.pm_run.specs.Run.{Core, Setup, book_after, core_0, core_of, cores_of}
 use Rattle.pm_laws.specs.Runs.{IsLeftBy, end_of_run, last_core, last_outputs}
 
--- an outbox holds this, or is as it was before where that is nothing
+-- an outbox holds these outputs, or, if there are none, is as before
 abbrev pub HoldsLast : Option Outputs → Outbox → Outbox → Type 0
 HoldsLast last before out = MatchOption last (out ≡ before) (λ outputs. Holds outputs out)
 

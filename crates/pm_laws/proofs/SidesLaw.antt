@@ -1,4 +1,4 @@
--- Two core steps tell the same where their outboxes hold what two core steps that tell the same put out.
+-- Two core steps tell the same if their outboxes hold the outputs of two that do.
 use Rattle.std.proofs.Common.{◌≡◌, ◌∙◌, ap, sym}
 use Rattle.pm_laws.proofs.Common.{Border, Event, NodeId, Object, State, Topology, effect, ended, ends_beyond, outputs}
 use Rattle.pm_core.specs.declared.outbox.Outbox.{Outbox}

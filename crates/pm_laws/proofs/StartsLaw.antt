@@ -1,4 +1,4 @@
--- The same processors beyond start in two books that agree, and none does where nothing is seen.
+-- The same processors beyond start in two books that agree, and none starts in an invisible step.
 use Rattle.std.proofs.Common.{◌≡◌, Bool, true, false, not, ℕ, ◌&&◌, ◌||◌, cond, if◌then◌else◌, List, [], ◌∷◌, ◌++◌, Option, Some, None, refl, sym, ◌∙◌, ap, subst}
 use Rattle.std.specs.Prelude.{filter}
 use Rattle.std.specs.List.{AllByRecursion as Each}
@@ -22,7 +22,7 @@ use Rattle.pm_laws.proofs.PathLaw.{path_alike, path_hidden}
 use Rattle.pm_laws.proofs.StepLaw.{effect_alike, effect_hidden}
 use Rattle.pm_laws.proofs.ValuesLaw.{mode_same, nobody_off}
 
--- what a processor that was down starts with, where it is active now
+-- the start of a processor that was down and is active now
 abbrev begun : Bool → NodeId → Processor → List Start
 begun down node proc = if down && same_mode proc.mode Active then record { proc = node; address = proc.address } ∷ [] else []
 
@@ -115,7 +115,7 @@ module _ (fixed : Fixed) (border : Border) (p : ℕ) (beyond : none_within borde
   again true later e = refl
   again false later e = e
 
-  -- where each book agrees with one that stays, a processor was down exactly where it is down there
+  -- if each book agrees with one that stays, a processor was down exactly if it is down there
   still_down : (still : State) (books : List State) → still.fixed ≡ fixed → Each (Agree border still) books
       → (not (is_awake (mode_at p still.now.core.procs)) || was_down books p) ≡ (not (is_awake (mode_at p still.now.core.procs)) || false)
   still_down still [] is each = refl

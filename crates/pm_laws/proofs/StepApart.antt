@@ -120,7 +120,7 @@ module _ (reach : ReachLaws) (laws : BelowLaws) (m : NodeId) where
 
 -- ---- an event in the one book, and in the other the same, or nothing where it is a message of the master
 
--- who tells nothing tells the same, where the master is one of the object, whose message is of nobody beyond
+-- steps that tell nothing tell the same, if the object has the master: its message is of nobody beyond
 pub agree_quiet : ReachLaws → BelowLaws → (m : NodeId) (event : Event) (a b : State) → AreObjects a.fixed → IsWellFormed a.fixed.topology
     → IsSound a → IsSound b → Agree (border_in a m) a b
     → Agree (border_in a m) (effect event a) (effect (quiet_event m event) b)

@@ -66,7 +66,7 @@ told_alike border Unwatch a b same = record {
   notes = BothFrom-map (SameMasterNotes border) without_notifiers without_notifiers (λ k x y is beyond. unwatched_both border x y (is beyond)) 0 a.notes b.notes same.notes;
 }
 
--- the second of two, where not both are so and the first is
+-- the second of two tests fails if not both hold and the first does
 second_within : (a b : Bool) → (a && b) ≡ false → a ≡ true → b ≡ false
 second_within true b is first = is
 second_within false b is first = cc

@@ -1,5 +1,5 @@
--- What core steps tell beyond a closed border: the same where the books before them agree and the event is the same, and nothing
--- where it is hidden, as a Pass is.
+-- The outputs of core steps beyond a closed border: equal if the books before them agree and the event is the same;
+-- none if the event is hidden, as a Pass is.
 use Rattle.std.proofs.Common.{◌≡◌, Bool, true, false, not, ◌&&◌, ◌||◌, ◌==◌, cond, if◌then◌else◌, List, [], ◌∷◌, ◌++◌, filter, flat_map, refl, ap, sym, ◌∙◌}
 use Rattle.pm_laws.proofs.Common.{Active, Agree, BelowLaws, Border, Event, Fixed, IsClosed, IsObject, IsSound, IsWellFormed, Kind, Mode, Node, NodeId, Off, Pass, State, Unit, effect, is_awake, is_hidden, kind_of, master_node, mode_at, proc_at, same_mode, value}
 use Rattle.pm_base.specs.declared.names.Unit.TheVariants.{Line}
@@ -26,7 +26,7 @@ use Rattle.pm_laws.proofs.VerdictsLaw.{pulse_hidden}
 
 -- ---- lists
 
--- of what passes one test, those that pass another one, where the first test is the same for these
+-- the elements that pass one test among those that pass another, if the first test agrees on them
 filter_alike : {X : Type 0} (q p r : X → Bool) → ((x : X) → q x ≡ true → p x ≡ r x) → (xs : List X) → filter q (filter p xs) ≡ filter q (filter r xs)
 filter_alike q p r same [] = refl
 filter_alike {X} q p r same (x ∷ xs) = at (q x) refl (filter_alike q p r same xs)

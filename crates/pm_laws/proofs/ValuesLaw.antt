@@ -30,7 +30,7 @@ use Rattle.pm_laws.proofs.WantedLaw.{wanted_alike}
 
 -- ---- slaves
 
--- where no row is on the slave, nothing is wanted of it besides
+-- a row on no slave adds no requirement
 rows_elsewhere : (border : Border) (s : ℕ) (modes : List Mode) → border.slave s ≡ true
     → (wanted : Wanted) (entries : List Entry) → Each (IsWithin border) entries
     → fold (with_row s modes) wanted entries ≡ wanted
@@ -43,7 +43,7 @@ rows_elsewhere border s modes beyond wanted (entry ∷ entries) each =
     elsewhere true is = clash (border.slave entry.seed.slave) (ap border.slave (eqb-true entry.seed.slave s is) ∙ beyond) each.0
     elsewhere false is = rw is refl
 
--- what is wanted of a slave beyond is equal, whether a master is beyond or none
+-- the requirements in force on a slave beyond are equal, whether a master is beyond or none
 wanted_beyond : (border : Border) (s : ℕ) (a b : State) (some : Bool) → border.some ≡ some → border.slave s ≡ true → Agree border a b → wanted_of s a.now.core.rows ≡ wanted_of s b.now.core.rows
 wanted_beyond border s a b true is beyond agree = wanted_alike border s a b is beyond agree
 wanted_beyond border s a b false is beyond agree =
@@ -111,7 +111,7 @@ module _ (fixed : Fixed) (border : Border) (closed : IsClosed fixed border) (a b
           ap (λ k. (slave.parent == w) && needs_in k slave) (chosen_alike s slave (closed.slaves s slave is above))
       at false here = ap (λ t. t && need_of a.core s slave) here ∙ sym (ap (λ t. t && need_of b.core s slave) here)
 
-  -- the owner of a processor below a power node beyond is beyond, where it has one
+  -- the owner of a processor below a power node beyond is beyond, if it has one
   owner_beyond : (p : ℕ) (proc : ProcDef) (owner : Option ℕ) → slice_get fixed.topology.procs p ≡ Some proc → border.power proc.parent ≡ true
       → owner_at fixed.object fixed.topology p ≡ owner → none_within border owner ≡ true
   owner_beyond p proc None is above own = refl

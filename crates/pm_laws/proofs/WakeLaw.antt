@@ -42,7 +42,7 @@ rows_unseen border s (e ∷ es) book within =
     ∙ (ap (λ prims. prims ++ seen_part border (flat_map (woken_from s book) es)) (row_unseen border s e book (within e.seed.master))
     ∙ rows_unseen border s es book within)
 
--- the interrupt of a slave, where no master is beyond
+-- the interrupt of a slave, without a master beyond
 pub raised_hidden : (border : Border) (kind : Kind) (book : State) → ((m : ℕ) → IsBeyond border m → border.some ≡ true) → not border.some ≡ true → AreHidden border (raised_at kind book)
 raised_hidden border (Slave s) book some is =
     (rows_unseen border s book.now.core.rows.entries book (λ m. within_by (border.master m) border.some (some m) (turned border.some is)), tt)
@@ -81,7 +81,7 @@ rows_alike fixed border s (x ∷ xs) (y ∷ ys) a b rows own same =
     ∙ (ap (λ prims. seen_part border (second y) ++ prims) (rows_alike fixed border s xs ys a b rows.1 parts.1 same)
     ∙ sym (filter-append (seen border) (second y) (flat_map second ys))))
 
--- the interrupt of a slave, where a master is beyond
+-- the interrupt of a slave, with a master beyond
 pub raised_alike : (fixed : Fixed) (border : Border) (kind : Kind) (a b : Now) → ArmsOwn (book_of fixed a) → border.some ≡ true → Same fixed border a b → AreAlike border (raised_at kind (book_of fixed a)) (raised_at kind (book_of fixed b))
 raised_alike fixed border (Slave s) a b armed some same =
     (rows_alike fixed border s a.core.rows.entries b.core.rows.entries a b (rows_both border a.core.rows.entries b.core.rows.entries some same.rows) armed same, tt)

@@ -1,4 +1,4 @@
--- What is wanted of a slave beyond is equal in two books that agree.
+-- The requirements in force on a slave beyond are equal in two books that agree.
 use Rattle.std.proofs.Common.{◌≡◌, ℕ, Bool, true, false, ◌==◌, if◌then◌else◌, List, refl, ◌∙◌, ap}
 use Rattle.std.proofs.lemmas.Bool.{eqb-true}
 use Rattle.pm_laws.proofs.Common.{Agree, Border, Entry, IsBeyond, Mode, Pair, SameRow, State}
@@ -9,12 +9,12 @@ use Rattle.pm_laws.proofs.CallsAlike.{entry_alike, rows_both}
 use Rattle.pm_laws.proofs.Places.{Both-fold}
 use Rattle.pm_laws.proofs.PrimFacts.{known_alike}
 
--- what this entry wants besides, where it is on the slave
+-- the requirement that this entry adds, if it is on the slave
 abbrev wants : Bool → Mode → Wanted → Entry → Wanted
 wants here mode wanted entry =
     if here then record { caps = both wanted.caps (required_by mode entry); limit = least wanted.limit (limit_by entry) } else wanted
 
--- a row on a slave beyond wants the same in both, since its master is beyond
+-- a row on a slave beyond requires the same in both books, since its master is beyond
 wants_alike : (border : Border) (s : ℕ) (a b : List Mode) (wanted : Wanted) (x y : Entry) (here : Bool) → (x.seed.slave == s) ≡ here → border.slave s ≡ true → ((m : ℕ) → IsBeyond border m → mode_in m a ≡ mode_in m b) → SameRow border x y → wants here (mode_in x.seed.master a) wanted x ≡ wants here (mode_in y.seed.master b) wanted y
 wants_alike border s a b wanted x y true is beyond known same =
     let there : x.seed.slave ≡ s = eqb-true x.seed.slave s is in

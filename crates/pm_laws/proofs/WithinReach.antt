@@ -23,7 +23,7 @@ pub record ReachLaws : Type 0 where
 
 -- ---- tests
 
--- what passes at most where another test does doesn't where the other one doesn't
+-- a test that implies another one fails if that one does
 blocked : (a b : Bool) → (a ≡ true → b ≡ true) → not b ≡ true → not a ≡ true
 blocked false b follows e = refl
 blocked true b follows e = let is = follows refl in cc

@@ -1,4 +1,4 @@
--- When two books agree beyond a border.
+-- Agreement of two books beyond a border.
 use Rattle.std.specs.Prelude.{◌≡◌, ℕ, Bool, true, false, List, Option, None, Some}
 use Rattle.std.specs.List.{AllByRecursion as Each}
 use Rattle.pm_base.specs.declared.names.Mode.{Mode}
@@ -19,8 +19,8 @@ use Rattle.pm_state.specs.State.{Fixed, TalkHalf, Now, State, object_at, objects
 use Rattle.pm_laws.specs.Border.{Border, HasSome, IsBeyond, IsPairClosed, IsUserKnown, is_told}
 use Rattle.pm_laws.specs.Both.{Both, BothFrom}
 
--- two rows are those of one pair, whose master is beyond where its slave is, and within where no master beyond may use that
--- slave; of a master beyond they are armed and held alike, and on a slave beyond they are equal
+-- two rows of one pair. The pair's master is beyond if its slave is, and within if no master beyond may use the
+-- slave. Rows of a master beyond are armed and held alike; rows on a slave beyond are equal
 pub record SameRow (border : Border) (a b : Entry) : Type 0 where
   pub seed : a.seed ≡ b.seed
   pub closed : border.slave a.seed.slave ≡ true → IsBeyond border a.seed.master
@@ -29,11 +29,11 @@ pub record SameRow (border : Border) (a b : Entry) : Type 0 where
   pub hold : IsBeyond border a.seed.master → a.row.hold ≡ b.row.hold
   pub row : border.slave a.seed.slave ≡ true → a.row ≡ b.row
 
--- a row is on a slave within reach
+-- a row on a slave within
 abbrev pub IsWithin : Border → Entry → Type 0
 IsWithin border entry = border.slave entry.seed.slave ≡ false
 
--- the rows of two books: where some master is beyond they are alike one by one, and else none is on a slave beyond
+-- the rows of two books: if some master is beyond they are alike one by one, else none is on a slave beyond
 abbrev pub SameRows : Border → Bool → List Entry → List Entry → Type 0
 SameRows border true a b = Both (SameRow border) a b
 SameRows border false a b = Each (IsWithin border) a × Each (IsWithin border) b
@@ -47,16 +47,16 @@ pub record SameProc (fixed : Fixed) (border : Border) (p : ℕ) (a b : Proc) : T
   pub beyond : (m : ℕ) → owner_at fixed.object fixed.topology p ≡ Some m → IsBeyond border m → a ≡ b
   pub nobodys : owner_at fixed.object fixed.topology p ≡ None → (a.mode ≡ Off) × (b.mode ≡ Off)
 
--- a reset line beyond is asserted in both or in neither, and where no master is beyond it is released in both
+-- a reset line beyond is asserted in both or in neither; without a master beyond it is released in both
 pub record SameLine (border : Border) (l : ℕ) (a b : Bool) : Type 0 where
   pub beyond : border.line l ≡ true → a ≡ b
   pub released : border.some ≡ false → border.line l ≡ true → (a ≡ false) × (b ≡ false)
 
--- what is pending on a master beyond is equal
+-- the pending request to a master beyond is the same
 abbrev pub SamePending : Border → ℕ → Option Pending → Option Pending → Type 0
 SamePending border m a b = IsBeyond border m → a ≡ b
 
--- about a node the same notifiers are on, and where notes about it are told beyond, the same notes wait
+-- the same notifiers are set about a node; and if notes about it are told beyond, the same notes wait
 pub record SameNotes (told : Bool) (a b : NodeNotes) : Type 0 where
   pub notifiers : a.notifiers ≡ b.notifiers
   pub slots : told ≡ true → a.slots ≡ b.slots
@@ -75,28 +75,29 @@ pub record SameEntries (border : Border) (a b : MasterNotes) : Type 0 where
 abbrev pub SameMasterNotes : Border → ℕ → MasterNotes → MasterNotes → Type 0
 SameMasterNotes border m a b = IsBeyond border m → SameEntries border a b
 
--- what the masters beyond are told is the same: the requests to suspend that are pending on them, and their notes
+-- masters beyond are told the same: by the requests to suspend that are pending on them, and by their notes
 pub record SameTalk (border : Border) (a b : TalkHalf) : Type 0 where
   pub pending : BothFrom (SamePending border) 0 a.pending b.pending
   pub notes : BothFrom (SameMasterNotes border) 0 a.notes b.notes
 
--- an object is one of the run's
+-- an object of the run
 pub record IsAmong (fixed : Fixed) (object : Object) : Type 0 where
   pub place : ℕ
   pub there : object_at fixed place ≡ Some object
 
--- the master of a permitted pair is beyond where its slave is, and within where no master beyond may use that slave
+-- a permitted pair fits the border: its master is beyond if its slave is, and within if no master beyond may use the
+-- slave
 abbrev pub IsPairFit : Border → Pair → Type 0
 IsPairFit border pair = IsPairClosed border pair × IsUserKnown border pair
 
--- so it is of each pair that an object of the run permits
+-- each pair that an object of the run permits fits the border
 abbrev pub ArePairsFit : Fixed → Border → Type 0
 ArePairsFit fixed border =
     Each (λ (object : Object). Each (IsPairFit border) (pairs_of object fixed.topology)) (objects_of fixed)
 
--- what changes of two books with the same loaded object, attached ones and chip agrees beyond the border. In both an object of
--- the run is in force, and the pairs that these permit fit the border. Where a master is beyond, some is, and then both books
--- have the same object in force, and are halted or neither is
+-- the changing halves of two books with the same loaded object, attached objects and chip agree beyond the border.
+-- Each has an object of the run in force, and the pairs that these objects permit fit the border. If some master is
+-- beyond, both have the same object in force, and both or neither are halted
 pub record Same (fixed : Fixed) (border : Border) (a b : Now) : Type 0 where
   pub some : HasSome border
   pub pairs : ArePairsFit fixed border
@@ -110,8 +111,8 @@ pub record Same (fixed : Fixed) (border : Border) (a b : Now) : Type 0 where
   pub lines : BothFrom (SameLine border) 0 a.core.lines b.core.lines
   pub talk : SameTalk border a.talk b.talk
 
--- two books agree beyond the border: they have the same loaded object, the same attached ones and the same chip, and what changes
--- of them agrees there
+-- two books agree beyond the border: they have the same loaded object, attached objects and chip, and their changing
+-- halves agree there
 pub record Agree (border : Border) (a b : State) : Type 0 where
   pub fixed : a.fixed ≡ b.fixed
   pub now : Same a.fixed border a.now b.now

@@ -1,4 +1,4 @@
--- What masters beyond a border are answered: which messages are of a master beyond, and name nothing within.
+-- The messages that masters beyond a border may send without naming anything within.
 use Rattle.std.specs.Prelude.{Bool, true, false, ◌&&◌, List, [], ◌∷◌}
 use Rattle.pm_base.specs.declared.events.Event.{Event}
 use Rattle.pm_base.specs.declared.events.Event.TheVariants.{Ipi}
@@ -24,7 +24,7 @@ abbrev pub named_beyond : Topology → Border → Unit → Bool
 named_beyond t border (Node node) = border.node node.0
 named_beyond t border (Line line) = line_beyond border (line_place t.lines line.0)
 
--- each of these is
+-- each of these nodes is beyond
 abbrev pub all_beyond : Topology → Border → List Unit → Bool
 all_beyond t border [] = true
 all_beyond t border (unit ∷ []) = named_beyond t border unit
@@ -39,7 +39,7 @@ abbrev pub sender_beyond : Object → Border → Event → Bool
 sender_beyond object border (Ipi master message) = none_within border (place_of object master)
 sender_beyond object border _ = true
 
--- and so is each node that its call names
+-- the sender is beyond or isn't configured, and each node that its call names is beyond
 abbrev pub message_beyond : Object → Topology → Border → Event → Bool
 message_beyond object t border (Ipi master message) =
     none_within border (place_of object master) && names_beyond t border (call_of message)

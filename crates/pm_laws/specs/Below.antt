@@ -1,4 +1,4 @@
--- What the crates below promise, as the laws of two books use it.
+-- The promises of the crates below on which the laws of two books rest.
 use Rattle.std.specs.Prelude.{◌≡◌, ℕ, Bool, true}
 use Rattle.pm_base.specs.declared.names.Mode.{Mode}
 use Rattle.pm_object.specs.declared.object.Object.{Object}
@@ -10,8 +10,8 @@ use Rattle.pm_topology.specs.Places.{KindLaws}
 use Rattle.pm_topology.specs.Units.{UnitLaws}
 use Rattle.pm_state.specs.Members.{members_of, owns}
 
--- the kind of a node is that of its entry, a shift arms and holds by the two modes alone, a
--- master's processors are its own, and the units of a chip stand in order
+-- the kind of a node is that of its entry; a shift arms and holds by the two modes alone; a master's processors are
+-- its own; the units of a chip rise
 pub record BelowLaws : Type 0 where
   pub kinds : KindLaws
   pub armed : (from to : Mode) (taken other : Bool) (a b : Row)

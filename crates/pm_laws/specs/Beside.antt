@@ -1,5 +1,5 @@
--- Two lists of core events, and of core steps, set beside one another: what may be in the loud world alone, which has the messages
--- of a master, and what in the quiet one, which doesn't. They need not be equally long.
+-- Two lists of core events, or of core steps, set beside one another. The loud world has the messages of a master,
+-- and the quiet one doesn't. The lists need not be equally long.
 use Rattle.std.specs.Prelude.{◌≡◌, List, [], ◌∷◌}
 use Rattle.pm_base.specs.declared.events.Event.{Event}
 use Rattle.pm_base.specs.declared.events.Event.TheVariants.{Ipi, Pass, Wfi}
@@ -19,8 +19,8 @@ IsOwn object t m (Ipi master message) = master.0 ≡ m.0
 IsOwn object t m (Wfi proc) = owner object t proc ≡ place_of object m
 IsOwn object t m _ = ⊥
 
--- of two lists of core events each event is in both, or it is the master's and in the first alone, or it is a Pass and in the
--- second alone
+-- each event of the two lists is in both; or it is the master's own and in the first alone; or it is a Pass and in
+-- the second alone
 pub data Beside (object : Object) (t : Topology) (m : NodeId) : List Event → List Event → Type 0 where
   none : Beside object t m [] []
   both : (event : Event) (es fs : List Event) → Beside object t m es fs → Beside object t m (event ∷ es) (event ∷ fs)
@@ -28,8 +28,8 @@ pub data Beside (object : Object) (t : Topology) (m : NodeId) : List Event → L
       → Beside object t m (event ∷ es) fs
   rest : (es fs : List Event) → Beside object t m es fs → Beside object t m es (Pass ∷ fs)
 
--- core steps beside one another, from these two books on. After each of them the books of the two worlds agree beyond the reach of the
--- master. What is in both tells the same there, and what is in one alone tells nothing
+-- core steps beside one another, from these two books on. After each of them the two books agree beyond the reach of
+-- the master. A step in both worlds tells the same there, and a step in one alone tells nothing
 pub data AreBeside (c : Setup) (m : NodeId) : State → State → List Core → List Core → Type 0 where
   no_core : (a b : State) → AreBeside c m a b [] []
   both_cores : (a b : State) (x y : Core) (xs ys : List Core)

@@ -1,4 +1,5 @@
--- What lies beyond the reach of a master. The laws of two worlds hold of every border that is closed.
+-- The border between what is beyond the reach of a master and what is within. The laws of two worlds hold of every
+-- closed border.
 use Rattle.std.specs.Prelude.{◌≡◌, ℕ, Bool, true, false, ◌&&◌, ◌==◌, slice_get, position, Option, Some, None, List, [], ◌∷◌}
 use Rattle.std.specs.List.{All, AllByRecursion as Each}
 use Rattle.pm_base.specs.declared.names.NodeId.{NodeId}
@@ -31,12 +32,12 @@ use Rattle.pm_reach.specs.Leads.{targets}
 abbrev pub AreObjects : Fixed → Type 0
 AreObjects fixed = Each IsObject (objects_of fixed)
 
--- where what is attached is an object, that is well formed
+-- an attached object that can be read is well formed
 abbrev pub HoldsObject : Attached → Type 0
 HoldsObject attached = (object : Object) → attached.content ≡ content.Object object → IsObject object
 
--- which masters, slaves, power nodes and reset lines are beyond, by their places; which slaves a master beyond may use; which
--- nodes are beyond, by their numbers; and whether any master is
+-- the masters, slaves, power nodes and reset lines that are beyond, by their places; the slaves that some master
+-- beyond may use; the nodes that are beyond, by their numbers; and whether any master is beyond
 pub record Border : Type 0 where
   pub master : ℕ → Bool
   pub slave : ℕ → Bool
@@ -50,15 +51,15 @@ pub record Border : Type 0 where
 abbrev pub IsBeyond : Border → ℕ → Type 0
 IsBeyond border m = border.master m ≡ true
 
--- where a master is beyond, some is
+-- if a master is beyond, some master is
 abbrev pub HasSome : Border → Type 0
 HasSome border = (m : ℕ) → IsBeyond border m → border.some ≡ true
 
--- the master of a permitted pair is beyond where its slave is
+-- the master of a permitted pair is beyond if its slave is
 abbrev pub IsPairClosed : Border → Pair → Type 0
 IsPairClosed border pair = border.slave pair.slave ≡ true → IsBeyond border pair.master
 
--- the master of a permitted pair is within where no master beyond may use its slave
+-- the master of a permitted pair is within if no master beyond may use its slave
 abbrev pub IsUserKnown : Border → Pair → Type 0
 IsUserKnown border pair = border.used pair.slave ≡ false → border.master pair.master ≡ false
 
@@ -72,7 +73,7 @@ abbrev pub line_beyond : Border → Option ℕ → Bool
 line_beyond border None = true
 line_beyond border (Some l) = border.line l
 
--- the unit of this kind and place is beyond, or there is none: a processor is where its owner is
+-- the unit of this kind and place is beyond, or there is none; a processor is beyond if its owner is
 abbrev pub unit_beyond : Object → Topology → Border → Kind → Bool
 unit_beyond object t border (Proc p) = none_within border (owner_at object t p)
 unit_beyond object t border (Slave s) = border.slave s
@@ -85,54 +86,54 @@ node_beyond object t border node =
     unit_beyond object t border (kind_of t node)
     && none_within border (position (λ (master : MasterRec). master.node == node.0) object.masters)
 
--- notes about the node of a unit are told beyond where it is beyond; about a reset line there are none
+-- notes about a unit's node are told beyond if the node is beyond; about a reset line there are none
 abbrev pub is_told : Border → Unit → Bool
 is_told border (Node node) = border.node node.0
 is_told border (Line line) = false
 
--- the border is closed: nobody within can change what is beyond, by what the loaded object or one of the others permits.
--- Each permission may come of another of them; who is who says the loaded one
+-- a closed border: nobody within can change what is beyond, by any permission of the loaded object or of the others,
+-- which may each come from another of them. The loaded object says which number is which master
 pub record IsClosedOver (object : Object) (others : List Object) (t : Topology) (border : Border) : Type 0 where
   -- who may use a slave beyond is beyond
   pub users : Each (λ (o : Object). All (IsPairClosed border) (pairs_of o t)) (object ∷ others)
-  -- a slave is one that masters beyond may use exactly where one of them may
+  -- a slave counts as used beyond exactly if a master beyond may use it
   pub known : Each (λ (o : Object). All (IsUserKnown border) (pairs_of o t)) (object ∷ others)
   pub used : (s : ℕ) → border.used s ≡ true → (k : ℕ) × IsBeyond border k × (some_permits (λ g. permits_use g k s) (all_grants (object ∷ others) t) ≡ true)
-  -- what stands directly below a power node beyond is beyond, or is a processor that no configured master has
+  -- whatever is directly below a power node beyond is beyond, or is a processor that no configured master has
   pub slaves : (s : ℕ) (slave : SlaveDef) → slice_get t.slaves s ≡ Some slave
       → border.power slave.parent ≡ true → border.slave s ≡ true
   pub procs : (p m : ℕ) (proc : ProcDef) → slice_get t.procs p ≡ Some proc → border.power proc.parent ≡ true
       → owner_at object t p ≡ Some m → IsBeyond border m
   pub powers : (w v : ℕ) (power : PowerDef) → slice_get t.powers w ≡ Some power → power.parent ≡ Some v
       → border.power v ≡ true → border.power w ≡ true
-  -- a node is beyond where its unit and the master of its number are
+  -- a node is beyond exactly if its unit and the master of its number are
   pub nodes : (node : NodeId) → border.node node.0 ≡ node_beyond object t border node
-  -- the master that a node beyond names is beyond, or it names none
+  -- the master that a node beyond names is beyond, if it names one
   pub names : (node : NodeId) → border.node node.0 ≡ true
       → none_within border (named_master (record { object = object; topology = t; attached = [] }) node) ≡ true
-  -- who may suspend or wake a master beyond is beyond
+  -- a master that may suspend or wake a master beyond is beyond
   pub suspends : (m k : ℕ) → some_permits (λ g. permits_suspend g m k) (all_grants (object ∷ others) t) ≡ true → IsBeyond border k → IsBeyond border m
   pub wakes : (m k : ℕ) → some_permits (λ g. permits_wake g m k) (all_grants (object ∷ others) t) ≡ true → IsBeyond border k → IsBeyond border m
-  -- who may force a processor of a master beyond, or a power node above one, is beyond; and so is who may force a power
-  -- node above a slave that a master beyond may use
+  -- a master is beyond if it may force a processor of a master beyond, a power node above one, or a power node above
+  -- a slave that a master beyond may use
   pub forces : (m k p : ℕ) (proc : ProcDef) (kind : Kind) → slice_get t.procs p ≡ Some proc
       → some_permits (λ g. permits_force g m kind) (all_grants (object ∷ others) t) ≡ true → is_under t kind p proc.node ≡ true
       → owner_at object t p ≡ Some k → IsBeyond border k → IsBeyond border m
   pub clears : (m k s : ℕ) (slave : SlaveDef) (kind : Kind) → slice_get t.slaves s ≡ Some slave
       → some_permits (λ g. permits_force g m kind) (all_grants (object ∷ others) t) ≡ true → is_slave_under t kind slave.node ≡ true
       → some_permits (λ g. permits_use g k s) (all_grants (object ∷ others) t) ≡ true → IsBeyond border k → IsBeyond border m
-  -- who may reset a processor of a master beyond is beyond, and who may reset a line beyond
+  -- a master is beyond if it may reset a processor of a master beyond, or a line beyond
   pub resets : (m k l : ℕ) (line : LineDef) → slice_get t.lines l ≡ Some line
       → some_permits (λ g. permits_reset g m l) (all_grants (object ∷ others) t) ≡ true
       → targets (object ∷ others) t line k ≡ true → IsBeyond border k → IsBeyond border m
   pub lines : (m l : ℕ) → some_permits (λ g. permits_reset g m l) (all_grants (object ∷ others) t) ≡ true → border.line l ≡ true → IsBeyond border m
-  -- where any master is beyond, so is who may shut down more than itself, and who may set the configuration
+  -- if any master is beyond, so is each that may shut down more than itself, and each that may set the configuration
   pub shuts : (m subtype : ℕ) → (subtype == 0) ≡ false → some_permits (λ g. permits_shut g m subtype) (all_grants (object ∷ others) t) ≡ true
       → border.some ≡ true → IsBeyond border m
   pub configures : (m : ℕ) → some_permits (λ g. permits_configure g m) (all_grants (object ∷ others) t) ≡ true → border.some ≡ true → IsBeyond border m
-  -- where a master is beyond, some is
+  -- if a master is beyond, some master is
   pub some : HasSome border
 
--- by what the objects of a run permit: the loaded one, and each attached one that can be put in force
+-- closed by the permissions of a run's objects: the loaded one, and each attached one that can be put in force
 abbrev pub IsClosed : Fixed → Border → Type 0
 IsClosed fixed border = IsClosedOver fixed.object (usable_among fixed.object fixed.attached) fixed.topology border

@@ -1,14 +1,14 @@
--- Two lists, place by place.
+-- A relation between two lists, place by place.
 use Rattle.std.specs.Prelude.{ℕ, ◌+◌, List, [], ◌∷◌, ⊤}
 
--- two lists are equally long, and what stands at a place of one is related to what stands there in the other
+-- two lists are equally long, and at each place their elements are related
 abbrev pub Both : {X : Type 0} → (X → X → Type 0) → List X → List X → Type 0
 Both R [] [] = ⊤
 Both R [] (y ∷ ys) = ⊥
 Both R (x ∷ xs) [] = ⊥
 Both R (x ∷ xs) (y ∷ ys) = R x y × Both R xs ys
 
--- two lists agree so by a relation that knows the place; the first of them are at place k
+-- the same by a relation that knows the place; the first elements are at place k
 abbrev pub BothFrom : {X : Type 0} → (ℕ → X → X → Type 0) → ℕ → List X → List X → Type 0
 BothFrom R k [] [] = ⊤
 BothFrom R k [] (y ∷ ys) = ⊥

@@ -1,4 +1,4 @@
--- Which callbacks say to a master beyond a border what it may hear of nodes beyond.
+-- The callbacks to masters beyond a border that tell only of nodes beyond.
 use Rattle.std.specs.Prelude.{Bool, not, ◌&&◌, ◌||◌, ◌==◌, List, filter, slice_index}
 use Rattle.pm_ipi.specs.Callbacks.{init_suspend}
 use Rattle.pm_object.specs.declared.object.Object.{Object}
@@ -12,6 +12,6 @@ abbrev pub is_callback_beyond : Object → Border → Callback → Bool
 is_callback_beyond object border call =
     not (is_within border (place_of object call.master)) && ((call.id == init_suspend) || border.node (slice_index call.args 0))
 
--- of these callbacks, those
+-- the callbacks among these that are beyond
 abbrev pub callbacks_beyond : Object → Border → List Callback → List Callback
 callbacks_beyond object border calls = filter (is_callback_beyond object border) calls

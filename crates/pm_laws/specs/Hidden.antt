@@ -1,4 +1,5 @@
--- Which events are hidden from what is beyond a border. The border, the object and the event decide it, and no row and no mode.
+-- The events that are hidden from beyond a border. The border, the object and the event decide it; rows and modes
+-- don't.
 use Rattle.std.specs.Prelude.{ℕ, Bool, true, false, not, ◌||◌, Option, Some, None, option_and_then}
 use Rattle.pm_base.specs.declared.events.Event.{Event}
 use Rattle.pm_base.specs.declared.events.Event.TheVariants.{Ipi, Boot, Wfi, Irq, Gic, Tick}
@@ -28,8 +29,8 @@ is_slave_within border (Some s) = not (border.slave s)
 abbrev pub owner_by : Kind → State → Option ℕ
 owner_by kind book = option_and_then (owner_at book.fixed.object book.fixed.topology) (proc_of kind)
 
--- a call of the shape changes a row on a slave within reach, wakes a processor whose owner is within reach or that nobody has, or
--- asks a master within reach to suspend, or none
+-- a call of this shape changes a row on a slave within, wakes a processor whose owner is within or that has none, or
+-- asks a master within, or none, to suspend
 abbrev pub shape_within : Border → Shape → State → Bool
 shape_within border (Own_row node by call) book = is_slave_within border (slave_place node book)
 shape_within border (Other_wakeup node address ack) book =
@@ -40,9 +41,8 @@ shape_within border _ book = false
 abbrev pub changes_within : Border → Call → State → Bool
 changes_within border call book = shape_within border (shape_of call) book
 
--- an event is hidden where its caller is within reach or isn't configured, where it changes what is within reach, where the
--- owner of its processor is within reach or nobody is; and the interrupt of a slave and the time that passes are hidden where no
--- master is beyond
+-- an event is hidden if its caller is within or isn't configured; if it changes something within; or if the owner of
+-- its processor is within, or it has none. The interrupt of a slave, and a tick, are hidden if no master is beyond
 abbrev pub is_hidden : Border → Event → State → Bool
 is_hidden border (Ipi master message) book =
     is_within border (master_place master book) || changes_within border (call_of message) book

@@ -1,4 +1,4 @@
--- What a step leaves, in the words in which two runs are compared.
+-- The words that compare the steps of two runs.
 use Rattle.pm_base.specs.declared.events.Event.{Event}
 use Rattle.pm_base.specs.declared.names.NodeId.{NodeId}
 use Rattle.pm_core.specs.declared.outbox.Outbox.{Outbox}
@@ -12,6 +12,6 @@ use Rattle.pm_laws.specs.ReachBorder.{border_of}
 abbrev pub border_in : State → NodeId → Border
 border_in book m = border_of book.fixed m
 
--- the core step of this event between these books, by what an outbox holds
+-- the core step of this event between these books, whose outputs this outbox holds
 abbrev pub stepped : Event → State → State → Outbox → Core
 stepped event before after out = record { event = event; before = before; after = after; outputs = outputs_in out }

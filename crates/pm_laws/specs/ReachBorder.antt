@@ -1,4 +1,5 @@
--- The border of the reach of a master: what its messages can't change, neither by themselves nor through other masters.
+-- The border of the reach of a master: beyond it is all that its messages can't change, by themselves or through
+-- other masters.
 use Rattle.std.specs.Prelude.{◌≡◌, ℕ, Bool, true, false, not, ◌<◌, ◌&&◌, nat_lt, ◌↔◌, length, slice_get, Option, Some, None, List, [], ◌∷◌}
 use Rattle.std.specs.Option.{option_map}
 use Rattle.pm_base.specs.declared.names.LineId.{LineId}
@@ -25,7 +26,7 @@ use Rattle.pm_laws.specs.Border.{Border, IsBeyond, node_beyond}
 abbrev pub place_of : Object → NodeId → Option ℕ
 place_of object m = master_place object.masters m
 
--- a path leads from the master at a place to another one: none does where the master isn't configured
+-- a path leads from the master at a place to another; none does if the master isn't configured
 abbrev pub reaches : List Object → Topology → Option ℕ → ℕ → Bool
 reaches objects t None k = false
 reaches objects t (Some from) k = is_reached objects t from k
@@ -49,7 +50,7 @@ abbrev pub reset_beyond : List Object → Topology → Option ℕ → Option Lin
 reset_beyond objects t from None = true
 reset_beyond objects t from (Some line) = not (brings_in objects t from members.Line (Line line))
 
--- which masters and units are beyond the reach of the master at a place, with this of the numbers of nodes
+-- the border by the masters and units beyond the reach of the master at a place, with these numbers of nodes
 abbrev pub unit_border : List Object → Topology → Option ℕ → (ℕ → Bool) → Border
 unit_border objects t from nodes = record {
   master = master_beyond objects t from;
@@ -61,24 +62,25 @@ unit_border objects t from nodes = record {
   some = some_master objects (master_beyond objects t from);
 }
 
--- the number of a node is beyond where its unit and the master of that number are: who is who says the loaded object
+-- the number of a node is beyond if its unit and the master of that number are; the loaded object says which number
+-- is which master
 abbrev pub number_beyond : Object → List Object → Topology → Option ℕ → ℕ → Bool
 number_beyond object others t from number =
     node_beyond object t (unit_border (object ∷ others) t from (λ other. true)) (record { 0 = number })
 
--- the border of the reach of the master with a number, by what the loaded object or one of the others permits. A
--- processor is beyond where its owner is
+-- the border of the reach of the master with this number, by the permissions of the loaded object and the others; a
+-- processor is beyond if its owner is
 abbrev pub border_over : Object → List Object → Topology → NodeId → Border
 border_over object others t m =
     unit_border (object ∷ others) t (place_of object m) (number_beyond object others t (place_of object m))
 
--- by what the objects of a run permit
+-- the border of the reach of a master, by the permissions of a run's objects
 abbrev pub border_of : Fixed → NodeId → Border
 border_of fixed m = border_over fixed.object (usable_among fixed.object fixed.attached) fixed.topology m
 
--- the border is that of the reach of the configured master at a place: a master is beyond exactly where no path leads to
--- it, and a slave, a power node or a reset line where no master at the end of a path brings it in; and some is beyond
--- exactly where one of them is
+-- the border is that of the reach of the configured master at a place. A master is beyond exactly if no path leads to
+-- it; a slave, power node or reset line exactly if no master at the end of a path brings it in. Some master is beyond
+-- exactly if one of them is
 pub record IsBorderOver (objects : List Object) (t : Topology) (from : ℕ) (border : Border) : Type 0 where
   pub master : (k : ℕ) → k < length (masters_of objects) → (border.master k ≡ false) ↔ Reaches objects t from k
   pub slave : (k : ℕ) (s : SlaveDef) → slice_get t.slaves k ≡ Some s

@@ -1,4 +1,4 @@
--- Which changes of a book are seen from beyond a border.
+-- The changes of a book that are seen from beyond a border.
 use Rattle.std.specs.Prelude.{◌≡◌, Bool, true, false, ◌&&◌, ◌||◌, List, [], filter}
 use Rattle.std.specs.List.{AllByRecursion as Each}
 use Rattle.pm_rows.specs.declared.row.Change.{Change}
@@ -15,9 +15,9 @@ is_arming (Set mode caps) = false
 is_arming (Limit latency) = false
 is_arming (Arm target) = true
 
--- a change is seen where it belongs to a master beyond; that of a row only where its slave is beyond too, or where it arms; and
--- that of a reset line where the line is beyond. Rows that are cleared on a slave are seen where a master beyond may use it, and
--- what is done to all where any master is beyond
+-- a change is seen if it belongs to a master beyond. The change of a row is seen only if its slave is beyond too, or
+-- if it arms. The change of a reset line is seen if the line is beyond, and clearing the rows on a slave if a master
+-- beyond may use it. A change of everything is seen if any master is beyond
 abbrev pub seen : Border → Prim → Bool
 seen border (At_row m s by) = border.master m && (border.slave s || is_arming by)
 seen border (Settle m) = border.master m
@@ -29,19 +29,19 @@ seen border Halt = border.some
 seen border Reload = border.some
 seen border (Enforce k) = border.some
 
--- of these changes, those that are seen
+-- the changes among these that are seen
 abbrev pub seen_part : Border → List Prim → List Prim
 seen_part border prims = filter (seen border) prims
 
--- no change of these is seen
+-- none of these changes is seen
 abbrev pub IsUnseen : Border → List Prim → Type 0
 IsUnseen border prims = seen_part border prims ≡ []
 
--- nothing in these stages is seen
+-- none of the changes in these stages is seen
 abbrev pub AreHidden : Border → List (List Prim) → Type 0
 AreHidden border stages = Each (IsUnseen border) stages
 
--- of two stages the same part is seen, and of two lists of stages it is so stage by stage
+-- two stages have the same visible part; two lists of stages have so, stage by stage
 abbrev pub IsSeenAlike : Border → List Prim → List Prim → Type 0
 IsSeenAlike border first second = seen_part border first ≡ seen_part border second
 

@@ -1,4 +1,4 @@
--- What is seen from beyond a border of what masters are told, and of the requests to suspend that are made and that end.
+-- The visible part of what masters are told, and of the requests to suspend that are made and that end.
 use Rattle.std.specs.Prelude.{◌≡◌, Bool, ◌&&◌, List, [], filter, Option, Some, None, if◌then◌else◌}
 use Rattle.pm_notify.specs.declared.notes.Waiting.{Waiting}
 use Rattle.pm_tell.specs.declared.ended.Ended.{Ended}
@@ -6,9 +6,9 @@ use Rattle.pm_calls.specs.declared.verdict.Asked.{Asked}
 use Rattle.pm_state.specs.Talk.{Talk, Ask, Lower, End, Forget, Notify, Take, Wait, Renew, Unwatch}
 use Rattle.pm_laws.specs.Border.{Border}
 
--- a request, and its end, are seen where the master that is asked is beyond; and the time that passes, a restart of all, and
--- another object in force, where some master is. What a master asks to be told, and that it forgets, is seen where it is beyond;
--- and a note that waits for it or is taken out where the node is beyond too
+-- a request and its end are seen if the asked master is beyond. A tick, a restart of everything and another object in
+-- force are seen if some master is beyond. The notifiers of a master are seen if it is beyond, and a note of it that
+-- waits or is taken out if the node is beyond too
 abbrev pub seen_talk : Border → Talk → Bool
 seen_talk border (Ask m request) = border.master m
 seen_talk border (Lower count) = border.some
@@ -20,15 +20,15 @@ seen_talk border (Wait m node note) = border.master m && border.node node.0
 seen_talk border Renew = border.some
 seen_talk border Unwatch = border.some
 
--- of these changes, those that are seen
+-- the changes among these that are seen
 abbrev pub talk_part : Border → List Talk → List Talk
 talk_part border changes = filter (seen_talk border) changes
 
--- no change of these is seen
+-- none of these changes is seen
 abbrev pub IsTalkUnseen : Border → List Talk → Type 0
 IsTalkUnseen border changes = talk_part border changes ≡ []
 
--- what is asked, where it is asked of a master beyond
+-- the request, if it is to a master beyond
 abbrev pub asks_beyond : Border → Option Asked → Option Asked
 asks_beyond border None = None
 asks_beyond border (Some asked) = if border.master asked.target then Some asked else None
@@ -37,10 +37,10 @@ asks_beyond border (Some asked) = if border.master asked.target then Some asked 
 abbrev pub is_about_beyond : Border → Waiting → Bool
 is_about_beyond border waiting = border.node waiting.node.0
 
--- of these notes, those about nodes beyond
+-- the notes among these that are about nodes beyond
 abbrev pub notes_beyond : Border → List Waiting → List Waiting
 notes_beyond border notes = filter (is_about_beyond border) notes
 
--- of these ends, those of requests to masters beyond
+-- the ends among these of requests to masters beyond
 abbrev pub ends_beyond : Border → List Ended → List Ended
 ends_beyond border ended = filter (λ (e : Ended). border.master e.target) ended

@@ -1,4 +1,4 @@
--- What a core step does and puts out beyond a border, and two core steps that tell the same there.
+-- The visible part of a core step, and two core steps that tell the same beyond a border.
 use Rattle.std.specs.Prelude.{◌≡◌, Bool, true, false, not, ◌&&◌, ◌==◌, List, [], ◌∷◌, Option, Some, None, if◌then◌else◌}
 use Rattle.pm_base.specs.declared.events.Event.{Event}
 use Rattle.pm_base.specs.declared.events.Event.TheVariants.{Ipi}
@@ -25,7 +25,7 @@ use Rattle.pm_laws.specs.ReachBorder.{place_of}
 use Rattle.pm_laws.specs.SeenTalk.{asks_beyond, ends_beyond}
 use Rattle.pm_laws.specs.Values.{moves_beyond, starts_beyond}
 
--- ---- of one core step, what is beyond
+-- ---- the part of one core step that is beyond
 
 -- the units that move, the processors that start, and the reset line that is pulsed
 abbrev pub moves_in : Object → Topology → Border → Core → List Unit
@@ -37,7 +37,7 @@ starts_in object t border core = starts_beyond object t border core.outputs.star
 abbrev pub pulse_in : Topology → Border → Core → Option LineId
 pulse_in t border core = pulse_beyond t border core.outputs.pulse
 
--- the request to suspend that is made, and the requests that end, where it is a master beyond that is asked
+-- the request to suspend that is made, and the requests that end, if the asked master is beyond
 abbrev pub asked_in : Border → Core → Option Asked
 asked_in border core = asks_beyond border (asks core.event core.before)
 
@@ -48,14 +48,14 @@ ends_in border core = ends_beyond border (ended core.event core.before)
 abbrev pub late_in : Border → Core → List Late
 late_in border core = late_replies (ends_in border core) core.after
 
--- the callbacks to masters beyond, but for those about nodes within
+-- the callbacks to masters beyond, without those about nodes within
 abbrev pub callbacks_in : Object → Border → Core → List Callback
 callbacks_in object border core = callbacks_beyond object border core.outputs.callbacks
 
 -- ---- of two core steps
 
--- two core steps tell the same beyond. Where the sender of the first one's message is beyond or isn't configured, it is dropped in
--- both or in neither; and where that message names nothing within, it is answered the same
+-- two core steps tell the same beyond. If the sender of the first one's message is beyond or isn't configured, both
+-- or neither drop it; and if that message names nothing within, both answer alike
 pub record SameTold (object : Object) (t : Topology) (border : Border) (x y : Core) : Type 0 where
   pub moves : moves_in object t border x ≡ moves_in object t border y
   pub starts : starts_in object t border x ≡ starts_in object t border y
@@ -67,7 +67,7 @@ pub record SameTold (object : Object) (t : Topology) (border : Border) (x y : Co
   pub drop : sender_beyond object border x.event ≡ true → is_dropped x.outputs.answer ≡ is_dropped y.outputs.answer
   pub answer : message_beyond object t border x.event ≡ true → x.outputs.answer ≡ y.outputs.answer
 
--- a core step tells nothing beyond. Nothing is said of its answer
+-- a core step tells nothing beyond; its answer is left open
 pub record TellsNothing (object : Object) (t : Topology) (border : Border) (x : Core) : Type 0 where
   pub moves : moves_in object t border x ≡ []
   pub starts : starts_in object t border x ≡ []
@@ -79,18 +79,18 @@ pub record TellsNothing (object : Object) (t : Topology) (border : Border) (x : 
 
 -- ---- the messages of other masters
 
--- the event is a message of another master than this one, which is beyond or isn't configured
+-- the event is a message of another master than this one, and that master is beyond or isn't configured
 abbrev pub is_others : Object → Border → NodeId → Event → Bool
 is_others object border m (Ipi master message) = not (master.0 == m.0) && none_within border (place_of object master)
 is_others object border m _ = false
 
--- and it names nothing within
+-- such a message whose call names nothing within
 abbrev pub is_beyond_all : Object → Topology → Border → NodeId → Event → Bool
 is_beyond_all object t border m (Ipi master message) =
     is_others object border m (Ipi master message) && names_beyond t border (call_of message)
 is_beyond_all object t border m _ = false
 
--- such a message with whether it is dropped, and one that names nothing within with its answer
+-- such a message with whether it is dropped; and one that names nothing within, with its answer
 abbrev pub drops_in : Object → Border → NodeId → Core → List (Event × Bool)
 drops_in object border m core =
     if is_others object border m core.event then (core.event, is_dropped core.outputs.answer) ∷ [] else []
@@ -99,7 +99,7 @@ abbrev pub answers_in : Object → Topology → Border → NodeId → Core → L
 answers_in object t border m core =
     if is_beyond_all object t border m core.event then (core.event, core.outputs.answer) ∷ [] else []
 
--- nothing, or this alone
+-- an empty list, or the list of this alone
 abbrev pub listed : {X : Type 0} → Option X → List X
 listed None = []
 listed (Some x) = x ∷ []

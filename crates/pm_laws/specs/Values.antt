@@ -1,4 +1,4 @@
--- Which units are beyond a border, which moves and starts are, and books in which units beyond have the same values and modes.
+-- The units beyond a border, their moves and starts, and books with the same values and modes there.
 use Rattle.std.specs.Prelude.{◌≡◌, Bool, true, List, filter}
 use Rattle.pm_base.specs.declared.names.NodeId.{NodeId}
 use Rattle.pm_base.specs.declared.names.Unit.{Unit}
@@ -12,16 +12,16 @@ use Rattle.pm_state.specs.Values.{value}
 use Rattle.pm_state.specs.Nodes.{mode}
 use Rattle.pm_laws.specs.Border.{Border, line_beyond, unit_beyond}
 
--- a unit is beyond: a processor where its owner is, or where it has none
+-- a unit is beyond; a processor is if its owner is, or if it has none
 abbrev pub is_beyond : Object → Topology → Border → Unit → Bool
 is_beyond object t border (Node node) = unit_beyond object t border (kind_of t node)
 is_beyond object t border (Line line) = line_beyond border (line_place t.lines line.0)
 
--- of these units, which move, those beyond
+-- the moved units among these that are beyond
 abbrev pub moves_beyond : Object → Topology → Border → List Unit → List Unit
 moves_beyond object t border moved = filter (is_beyond object t border) moved
 
--- of these starts, those of processors beyond
+-- the starts among these of processors beyond
 abbrev pub starts_beyond : Object → Topology → Border → List Start → List Start
 starts_beyond object t border starts = filter (λ (start : Start). is_beyond object t border (Node start.proc)) starts
 

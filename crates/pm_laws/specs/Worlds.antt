@@ -1,5 +1,5 @@
--- Two runs side by side, line by line: one of them without the messages of a master. Beyond the reach of the master neither can be
--- told from the other.
+-- Two runs side by side, line by line, of which the quiet one lacks the messages of a master. Beyond the reach of the
+-- master they can't be told apart.
 use Rattle.std.specs.Prelude.{◌≡◌, ◌==◌, ℕ, ⊤, if◌then◌else◌, List, [], ◌∷◌, flat_map, Option, Some, None}
 use Rattle.pm_base.specs.declared.events.Event.{Event}
 use Rattle.pm_base.specs.declared.names.NodeId.{NodeId}
@@ -18,18 +18,18 @@ use Rattle.pm_laws.specs.ReachBorder.{border_of}
 use Rattle.pm_laws.specs.Told.{answers_in, asked_in, callbacks_in, drops_in, ends_in, late_in, listed, moves_in, pulse_in, starts_in}
 use Rattle.pm_laws.specs.Values.{IsModeAlike, IsValueAlike}
 
--- ---- the law: how the core steps stand beside one another
+-- ---- the law: the core steps are beside one another
 
--- boxes, of which the one at this place is empty
+-- the boxes, with the one at this place emptied
 abbrev pub without_box : Option ℕ → Boxes → Boxes
 without_box None boxes = boxes
 without_box (Some k) boxes = emptied k boxes
 
--- the boxes of the quiet run are those of the loud one, but that the box of the master is empty
+-- the boxes of the quiet run are those of the loud one, with the box of the master emptied
 abbrev pub AreQuietBoxes : Setup → NodeId → Boxes → Boxes → Type 0
 AreQuietBoxes c m loud quiet = quiet ≡ without_box (box_of c.object m) loud
 
--- the masters but this one that are told that their boxes are full
+-- the masters other than this one that are told that their boxes are full
 abbrev pub busy_of : NodeId → Note → List NodeId
 busy_of m (Busy master) = if master.0 == m.0 then [] else master ∷ []
 busy_of m (Called proc code) = []
@@ -41,15 +41,15 @@ busy_of m (Late address) = []
 abbrev pub busy_others : NodeId → List Note → List NodeId
 busy_others m notes = flat_map (busy_of m) notes
 
--- the core steps of two lines are beside one another, from these two books on, and the books after the lines agree beyond. So do
--- the boxes, and the same other masters are told that theirs are full
+-- the core steps of two lines are beside one another, from these two books on. The books after the lines agree
+-- beyond, the boxes fit, and the same other masters are told that theirs are full
 pub record IsLineBeside (c : Setup) (m : NodeId) (a b : State) (x y : Line) : Type 0 where
   pub cores : AreBeside c m a b x.cores y.cores
   pub agree : Agree (border_of (fixed_of c) m) x.after.book y.after.book
   pub boxes : AreQuietBoxes c m x.after.boxes y.after.boxes
   pub busy : busy_others m x.notes ≡ busy_others m y.notes
 
--- two lists of lines are equally long, and line by line so, from these two books on
+-- two lists of lines are equally long, and beside one another line by line, from these two books on
 abbrev pub AreLinesBeside : Setup → NodeId → State → State → List Line → List Line → Type 0
 AreLinesBeside c m a b [] [] = ⊤
 AreLinesBeside c m a b [] (y ∷ ys) = ⊥
@@ -57,20 +57,20 @@ AreLinesBeside c m a b (x ∷ xs) [] = ⊥
 AreLinesBeside c m a b (x ∷ xs) (y ∷ ys) =
     IsLineBeside c m a b x y × AreLinesBeside c m x.after.book y.after.book xs ys
 
--- the run of these events, and the run without the messages of the master: the load is the same in both, its book agrees with
--- itself beyond, and its boxes are empty; and the lines after it are beside one another
+-- the run of these events beside the run without the messages of the master. Both have the same load, whose book
+-- agrees with itself beyond, and whose boxes are empty. The lines after it are beside one another
 pub record AreWorldsBeside (c : Setup) (m : NodeId) (events : List Event) : Type 0 where
   pub load : Agree (border_of (fixed_of c) m) (loaded c).book (loaded c).book
   pub boxes : AreQuietBoxes c m (loaded c).boxes (loaded c).boxes
   pub lines : AreLinesBeside c m (loaded c).book (loaded c).book (lines_of c events (loaded c)) (lines_of c (quiet m events) (loaded c))
 
--- ---- its consequences: what is the same of two lines
+-- ---- its consequences: what is the same in two lines
 
--- what is made of each core step of a line, in order
+-- the lists that are made of the core steps of a line, one after another
 abbrev pub of_line : {X : Type 0} → (Core → List X) → Line → List X
 of_line f line = flat_map f line.cores
 
--- by a border, and the master whose messages only the first line has
+-- two lines are alike beyond this border; only the first has the messages of the master
 pub record IsAlikeBeyond (c : Setup) (m : NodeId) (border : Border) (x y : Line) : Type 0 where
   -- after both lines the books agree beyond, each unit there has the same value, and each processor the same mode
   pub books : Agree border x.after.book y.after.book
@@ -80,24 +80,24 @@ pub record IsAlikeBeyond (c : Setup) (m : NodeId) (border : Border) (x y : Line)
   pub moves : of_line (moves_in c.object c.topology border) x ≡ of_line (moves_in c.object c.topology border) y
   pub starts : of_line (starts_in c.object c.topology border) x ≡ of_line (starts_in c.object c.topology border) y
   pub pulses : of_line (λ core. listed (pulse_in c.topology border core)) x ≡ of_line (λ core. listed (pulse_in c.topology border core)) y
-  -- what is asked of masters beyond is equal, and which requests to them end, with which late replies, and which callbacks are
-  -- made to them, but for those about nodes within
+  -- the same requests to masters beyond are made and end, with the same late replies, and the same callbacks are made
+  -- to them, except those about nodes within
   pub asked : of_line (λ core. listed (asked_in border core)) x ≡ of_line (λ core. listed (asked_in border core)) y
   pub ends : of_line (ends_in border) x ≡ of_line (ends_in border) y
   pub late : of_line (late_in border) x ≡ of_line (late_in border) y
   pub callbacks : of_line (callbacks_in c.object border) x ≡ of_line (callbacks_in c.object border) y
-  -- of other masters that are beyond, or that aren't configured, equal messages are dropped; and those that name nothing within
-  -- are answered the same
+  -- the same messages of other masters that are beyond or aren't configured are dropped; those that name nothing
+  -- within are answered alike
   pub drops : of_line (drops_in c.object border m) x ≡ of_line (drops_in c.object border m) y
   pub answers : of_line (answers_in c.object c.topology border m) x ≡ of_line (answers_in c.object c.topology border m) y
-  -- each box holds the same but the master's own; and the same other masters are told that their boxes are full
+  -- each box but the master's own holds the same, and the same other masters are told that their boxes are full
   pub boxes : AreQuietBoxes c m x.after.boxes y.after.boxes
   pub busy : busy_others m x.notes ≡ busy_others m y.notes
 
--- beyond the reach of the master
+-- two lines are alike beyond the reach of the master
 abbrev pub IsLineAlike : Setup → NodeId → Line → Line → Type 0
 IsLineAlike c m x y = IsAlikeBeyond c m (border_of (fixed_of c) m) x y
 
--- the two runs are equally long, and line by line so
+-- the two runs are equally long, and alike line by line
 abbrev pub AreWorldsAlike : Setup → NodeId → List Event → Type 0
 AreWorldsAlike c m events = Both (IsLineAlike c m) (run c events) (run c (quiet m events))

@@ -1,4 +1,4 @@
-//! Laws of what masters beyond a border are answered.
+//! Laws of the answers and callbacks to masters beyond a border.
 
 ghost use Rattle.std.specs.Prelude.{◌≡◌, [], true};
 ghost use Rattle.pm_base.specs.declared.events.Event.{Event};
@@ -15,9 +15,9 @@ ghost use Rattle.pm_laws.specs.Hidden.{is_hidden};
 
 use crate::laws::laws_below;
 
-/// A message of a master beyond, or of one that isn't configured, is dropped in both of two books that agree, or in neither.
-/// Where these are sound, and the call names nothing within, it is answered the same in both: by the same response, and by an
-/// acknowledgement with the same operating point, which is written in both or in neither.
+/// Two books that agree beyond a border answer the masters there alike. A message of a master beyond, or of one that
+/// isn't configured, is dropped in both or in neither. If its call also names nothing within, and the books are
+/// sound, the two answers are equal: the response, and an acknowledgement with its operating point.
 pub fn answers_agree()
     ensures drops { (border : Border) (event : Event) (a b : State) → Agree border a b
         → sender_beyond a.fixed.object border event ≡ true
@@ -30,9 +30,8 @@ pub fn answers_agree()
     laws_below();
 }
 
-/// In two sound books that agree the same masters beyond are asked to suspend, and of nodes beyond they are told the same, in the
-/// same order: what waited for them, how their requests ended, and what happened to nodes. A hidden event tells them nothing of
-/// either.
+/// Two sound books that agree beyond a closed border make the same callbacks to masters there, in the same order:
+/// requests to suspend, and notes about nodes beyond. A hidden event makes none of these callbacks.
 pub fn callbacks_agree()
     ensures both { (border : Border) (event : Event) (a b : State) → IsObject a.fixed.object
         → IsClosed a.fixed border → IsSound a → IsSound b → Agree border a b

@@ -1,4 +1,4 @@
-//! Laws of two books that agree beyond the reach of a master, and of a run and the run without its messages.
+//! Laws of two books that agree beyond the reach of a master, and of a run beside the run without its messages.
 
 ghost use Rattle.std.specs.List.{list_any};
 ghost use Rattle.std.specs.Prelude.{◌==◌, IsTrue, List};
@@ -23,11 +23,10 @@ ghost use Rattle.pm_laws.specs.Worlds.{AreQuietBoxes, AreWorldsAlike, AreWorldsB
 use crate::laws::{books_agree, laws_below, reach_is_closed};
 use pm_run::books_of_a_run;
 
-/// Two books that agree beyond the reach of a master have the same values and modes there. They agree after an event in
-/// both, and then the same is told there. A message of the master in one alone leaves them in agreement, and tells
-/// nothing there; and so does the wait of a processor of it, or a Pass. So they agree after an event in the one, and in
-/// the other the same event, or nothing if it is a message of that master; and if the object has the master, the
-/// same is told there by both.
+/// Two books that agree beyond the reach of a master have equal values and modes there. One event in both keeps the
+/// agreement, and tells the same beyond. A message of the master, the wait of one of its processors, or a Pass, in
+/// one book alone keeps the agreement too, and tells nothing beyond. Therefore the books agree after an event in one
+/// and its quiet event in the other. If the object has the master, these two steps also tell the same beyond.
 pub fn steps_keep_apart()
     ensures values { (m : NodeId) (a b : State) → AreObjects a.fixed → IsWellFormed a.fixed.topology
         → Agree (border_in a m) a b → IsValueAlike a.fixed.object a.fixed.topology (border_in a m) a b }
@@ -57,14 +56,13 @@ pub fn steps_keep_apart()
     reach_is_closed();
 }
 
-/// Nothing that a master sends or puts into its box changes what is beyond its reach, and no power call does that is
-/// lowered to messages of it: no processor of it is another master's by the rules on masters. The boxes of the two
-/// worlds are the same but for its own, which stays empty in the quiet one. So the core events of a script line, and of
-/// the same line without a message of the master, are beside one another, and then so are their core steps, from books
-/// that agree beyond the reach: what is in both tells the same there, and what is in one alone tells nothing. So a run,
-/// and the run without the messages of the master, are beside one another line by line; and line by line the same
-/// moves, starts, is pulsed, is asked of masters beyond, ends, is replied late and is called back, the same messages of
-/// others are dropped, and those that name nothing within are answered the same.
+/// A master changes nothing beyond its reach, neither by messages, nor by its box, nor by power calls that become
+/// messages of it. The quiet run leaves out the messages of the master; its boxes are those of the loud run, but the
+/// master's own is empty. The core events of a line and of its quiet line are beside one another. So are their core
+/// steps, from books that agree beyond the reach: a step in both runs tells the same beyond, and a step in one alone
+/// tells nothing. So are the lines, and the two runs. Line by line they have beyond the reach the same moves, starts,
+/// pulses, requests, ends, late replies and callbacks, they drop the same messages of others, and they answer
+/// messages that name nothing within alike.
 pub fn reach_keeps_apart()
     ensures events { (c : Setup) (m : NodeId) (event : Event) (a b : Stand) → ObeysMasterRules c.topology
         → AreQuietBoxes c m a.boxes b.boxes

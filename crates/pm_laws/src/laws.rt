@@ -54,8 +54,8 @@ pub fn laws_below()
     units_stand_in_order();
 }
 
-/// A sound book agrees with itself beyond each closed border, as the book at load does; two books that agree do so either way, and
-/// so do two that agree with a third one.
+/// A sound book agrees with itself beyond each closed border, and so does a book at load. Agreement is symmetric and
+/// transitive.
 pub fn books_agree()
     ensures itself { (border : Border) (book : State) → IsClosed book.fixed border
         → IsSound book → Agree border book book }
@@ -68,8 +68,9 @@ pub fn books_agree()
     units_stand_in_order();
 }
 
-/// A visible change made in both books, if some master is beyond, or an invisible one made in either, keeps two books in
-/// agreement. So do two lists of changes, one in each book, with the same visible part; and an invisible list in one book.
+/// A visible change keeps the agreement of two books if it is made in both and some master is beyond. An invisible
+/// change keeps it if it is made in one. Two lists of changes with the same visible part, one made in each book, keep
+/// it; and so does an invisible list in one book.
 pub fn changes_agree()
     ensures seen { (border : Border) (prim : Prim) (a b : State) → border.some ≡ true → seen border prim ≡ true
         → Agree border a b → Agree border (changed (prim ∷ []) a) (changed (prim ∷ []) b) }
@@ -84,8 +85,9 @@ pub fn changes_agree()
     laws_below();
 }
 
-/// A change of what masters are told keeps two books in agreement if it is made in both, or if it is invisible and made in
-/// either. So do two lists of such changes, one in each book, with the same visible part; and an invisible list in one book.
+/// A change of what masters are told keeps the agreement of two books if it is made in both, or if it is invisible
+/// and made in one. Two lists of such changes with the same visible part, one made in each book, keep it; and so does
+/// an invisible list in one book.
 pub fn talks_agree()
     ensures both { (border : Border) (change : Talk) (a b : State)
         → Agree border a b → Agree border (talked (change ∷ []) a) (talked (change ∷ []) b) }
@@ -99,10 +101,9 @@ pub fn talks_agree()
         → Agree border a b → Agree border (talked changes a) b }
 {}
 
-/// A master beyond has the same mode in two books that agree, since it comes from its own processors. So
-/// the same part is seen of the shifts by which the rows follow, and there is no shift if the rows know
-/// the modes already; and two stages with the same seen part leave the books in agreement, if some master
-/// is beyond.
+/// A master beyond has the same mode in two books that agree, since its mode comes from its own processors. Therefore
+/// the shifts by which rows follow the modes have the same visible part. There is no shift if the rows know the modes
+/// already. Two stages with the same visible part keep the agreement, if some master is beyond.
 pub fn rows_follow_alike()
     ensures mode { (border : Border) (m : ℕ) (a b : State) → IsBeyond border m → Agree border a b
         → mode_of_master a.fixed a.now.core m ≡ mode_of_master b.fixed b.now.core m }
@@ -116,9 +117,9 @@ pub fn rows_follow_alike()
     laws_below();
 }
 
-/// The books along a step. Where nothing in its stages is seen each of them agrees with a book that stays,
-/// if the one before did. If the same part of two lists of stages is seen, one by one, and some master is
-/// beyond, the books along them agree one by one, and so do the last ones.
+/// The books along a step. If no change in its stages is visible, each of them agrees with a book that stays, if the
+/// first one did. If two lists of stages have the same visible parts, stage by stage, and some master is beyond, the
+/// books along them agree one by one, and so do the last ones.
 pub fn paths_agree()
     ensures hidden { (border : Border) (stages : List (List Prim)) (still now : State) → KnowsModes still
         → AreHidden border stages → Agree border still now → Each (Agree border still) (path_from stages now) }
@@ -134,10 +135,10 @@ pub fn paths_agree()
     laws_below();
 }
 
-/// What a master beyond sees in two books that agree is equal: its row on a slave beyond, with the other
-/// master that uses the slave, its own processors, and whether a request to suspend is pending on it. So is
-/// what any master sees of a processor that it wants to wake, whose owner is beyond, and of a master beyond
-/// that it asks to suspend; and what is wanted of a slave beyond, if any master is beyond.
+/// The views of two books that agree are equal if they show what is beyond: a master's row on a slave beyond, with
+/// its rival; its own processors; a processor to wake, if its owner is beyond; a master beyond that is to suspend;
+/// whether a request is pending on a master beyond. What all masters require of a slave beyond is equal too, if some
+/// master is beyond.
 pub fn views_agree()
     ensures row { (border : Border) (m : ℕ) (node : NodeId) (a b : State)
         → IsClosed a.fixed border → IsBeyond border m
@@ -159,8 +160,8 @@ pub fn views_agree()
     laws_below();
 }
 
-/// A unit beyond has the same value in two books that agree: a slave, a power node, a reset line, a processor of a master
-/// beyond or of nobody; and a processor has the same mode.
+/// A unit beyond has the same value in two books that agree: a slave, a power node, a reset line, or a processor of a
+/// master beyond or of no master. Such a processor has the same mode too.
 pub fn values_agree()
     ensures values { (border : Border) (unit : Unit) (a b : State) → IsClosed a.fixed border
         → is_beyond a.fixed.object a.fixed.topology border unit ≡ true
@@ -170,9 +171,9 @@ pub fn values_agree()
         → Agree border a b → mode_at p a.now.core.procs ≡ mode_at p b.now.core.procs }
 {}
 
-/// An event keeps two sound books in agreement beyond each closed border, whether it does the same in both
-/// or is hidden. A hidden event isn't seen: its book agrees with one in which nothing happens. The messages of a
-/// master within reach are hidden, and so are those of a master that isn't configured.
+/// One event in two sound books keeps their agreement beyond each closed border. A hidden event in one of them keeps
+/// it too, and no change in its stages is visible. The messages of a master within, and of one that isn't configured,
+/// are hidden.
 pub fn steps_agree()
     ensures both { (border : Border) (event : Event) (a b : State)
         → IsClosed a.fixed border → IsSound a → IsSound b
@@ -189,9 +190,9 @@ pub fn steps_agree()
     laws_below();
 }
 
-/// Masters beyond are asked the same in two books that agree, and, if these are sound, the same requests to masters
-/// beyond end, with the same status, and the same part is seen of what is told. In a hidden event no master beyond is
-/// asked, no request to one ends, and nothing is seen of what is told.
+/// Two books that agree ask masters beyond the same. If they are sound, the same requests to masters beyond end, with
+/// the same status, and the changes of what masters are told have the same visible part. A hidden event asks no
+/// master beyond, ends no request to one, and changes nothing visible of what masters are told.
 pub fn requests_agree()
     ensures asked { (border : Border) (event : Event) (a b : State)
         → IsClosed a.fixed border → Agree border a b
@@ -215,8 +216,8 @@ pub fn requests_agree()
     laws_below();
 }
 
-/// In two books that agree, the processors that start beyond are the same, at the same addresses, whether an event does
-/// the same in both or is hidden; and a hidden event starts none of them that a step in which nothing happens doesn't.
+/// One event in two books that agree starts the same processors beyond, at the same addresses. A hidden event in one
+/// book starts there what a Pass starts in the other.
 pub fn starts_agree()
     ensures both { (border : Border) (event : Event) (a b : State)
         → IsClosed a.fixed border → IsSound a → IsSound b → Agree border a b
@@ -231,7 +232,7 @@ pub fn starts_agree()
     laws_below();
 }
 
-/// In two books that agree, the reset line that is pulsed beyond is the same, and a hidden event pulses none.
+/// One event in two books that agree pulses the same reset line beyond, if any. A hidden event pulses none.
 pub fn pulses_agree()
     ensures both { (border : Border) (event : Event) (a b : State)
         → IsClosed a.fixed border → Agree border a b
@@ -243,9 +244,9 @@ pub fn pulses_agree()
     laws_below();
 }
 
-/// Over well-formed objects of a run and a chip that passes its check the border of the reach of a master, by what any of
-/// these permits, is closed, and it is no narrower and no wider than that reach. The master itself is within; where it
-/// isn't configured, nothing is.
+/// The border of a master's reach, by the permissions of all objects of a run, is closed if these objects are well
+/// formed and the chip passes its check. It is exactly that reach: no narrower and no wider. The master itself is
+/// within. If it isn't configured, nothing is within.
 pub fn reach_is_closed()
     ensures closed { (fixed : Fixed) (m : NodeId) → AreObjects fixed → IsWellFormed fixed.topology
         → IsClosed fixed (border_of fixed m) }

@@ -1,4 +1,5 @@
-//! Two books that agree beyond a border: what a master within reach does is not seen from beyond.
+//! Two books that agree beyond a border, and the steps that keep their agreement: what a master within does isn't
+//! seen from beyond.
 #![tactic(auto)]
 
 mod answers;

@@ -1,4 +1,4 @@
-//! A list of core events, one core step after another.
+//! Runs of core events: a book is stepped through a list of them.
 
 ghost use Rattle.std.specs.Prelude.{◌≡◌, [], None, MatchOption};
 ghost use Rattle.pm_core.specs.Outbox.{HasRoomFor, Holds, KeepsRoom};
@@ -10,9 +10,9 @@ ghost use Rattle.pm_laws.specs.Runs.{IsLeftBy, end_of_run, last_outputs};
 use pm_base::Event;
 use pm_core::{Book, Outbox};
 
-/// Steps a book through a list of core events, in their order. The outbox, which was loaded for the book's topology and
-/// masters, then holds what the last step puts out; with no event neither the book nor the outbox changes. No memory is
-/// taken.
+/// Steps a book through a list of core events, in their order, without taking memory. The outbox was loaded for the
+/// topology and the masters of the book. At the end it holds what the last step puts out. Without events neither the
+/// book nor the outbox changes.
 pub fn run(book: &mut Book, events: &[Event], out: &mut Outbox)
     requires room { HasRoomFor book.old out.old }
     ensures book { book.new ≡ book_after events.now book.old }
@@ -21,12 +21,13 @@ pub fn run(book: &mut Book, events: &[Event], out: &mut Outbox)
         (λ outputs. Holds outputs out.new) }
     ensures nothing { events.now ≡ [] → (book.new ≡ book.old) × (out.new ≡ out.old) }
 
-    // From a book at load, with what the load puts out, this is where the load and then these core events lead to.
+    // If the book and the outbox are as the load left them, they end as the load and then these core events leave
+    // them.
     ensures run { (c : Setup) → IsLeftBy (core_0 c) book.old out.old
         → IsLeftBy (end_of_run c events.now) book.new out.new }
 
-    // The outbox has the room that it had, which is that of the book's chip and masters; and the book is sound and
-    // meets its requirements, as after each step.
+    // The outbox keeps its room, which fits the book's chip and masters; and the book is sound and meets its
+    // requirements
     ensures room { KeepsRoom out.old out.new }
     ensures ready { HasRoomFor book.new out.new }
     ensures sound { IsSound book.new }

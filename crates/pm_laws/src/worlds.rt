@@ -24,8 +24,9 @@ use crate::apart::steps_keep_apart;
 use pm_base::{Event, NodeId};
 use pm_core::{Book, Outbox};
 
-/// The event, or `pass`, in which nothing happens, if it is a message of the master, sent or put into its box, or a
-/// power call, which comes to messages of master 1. It is lent, since an event may hold the words of an object.
+/// The quiet event of an event: `pass`, in which nothing happens, for a message of the master, one put into its box,
+/// or, if it is master 1, a power call, which becomes messages of master 1; else the event itself. The result is
+/// borrowed, since an event may hold the words of an object.
 pub fn quiet_event<'e>(m: NodeId, event: &'e Event, pass: &'e Event) -> &'e Event
     requires { pass.now ≡ Pass }
     ensures { result.now ≡ quiet_event m event.now }
@@ -39,25 +40,26 @@ pub fn quiet_event<'e>(m: NodeId, event: &'e Event, pass: &'e Event) -> &'e Even
     }
 }
 
-/// The objects of a book at load are well formed where the loaded one is and each object that is attached, as those are that
-/// `decode` reads; and a step leaves the objects of its book. So a caller that loads its books can step them side by side.
+/// The objects of a run are well formed at load if the loaded object is, and each attached one that can be read;
+/// those that `decode` reads are. A step keeps the objects of its book. So a caller that loads its books may step
+/// them side by side.
 pub fn loaded_objects_are_objects()
     ensures load { (object : Object) (attached : List Attached) (topology : Topology) → IsObject object
         → Each HoldsObject attached → AreObjects (load_of object attached topology).fixed }
     ensures step { (event : Event) (book : State) → AreObjects book.fixed → AreObjects (effect event book).fixed }
 {}
 
-/// One core event in the one of two books, and in the other the same event, or nothing if it is a message of a master. The
-/// books have one loaded object, which has the master, the same attached ones and one chip; each of these objects that can be
-/// in force is well formed, as `loaded_objects_are_objects` has it. They agree beyond the reach of the master; both outboxes
-/// were loaded for them. What is beyond that reach can't tell the two apart. No memory is taken.
+/// Steps one book by an event, and the other by its quiet event: nothing, if it is a message of master `m`. Nothing
+/// beyond the reach of `m` can tell the two books apart. No memory is taken.
 ///
-/// Beyond it they have the same values and modes, and the same is told: the same units move, the same processors start, at
-/// the same addresses, and the same reset line is pulsed, or none; the same is asked of masters there, the same requests to
-/// them end, with the same late replies, and they are called back alike, but for what is about nodes within; the message of
-/// a master there is dropped in both or in neither, and if its call names nothing within, it is answered the same.
+/// The books have the same loaded object, which has the master, the same attached objects and the same chip. Each
+/// object that can be in force is well formed (`loaded_objects_are_objects`). The books agree beyond the reach, and
+/// each outbox was loaded for its book.
 ///
-/// Each outbox has the room that it had, which is that of the books' chip and masters.
+/// After the steps the books agree there, with equal values and modes. Both steps tell the same there: moves, starts
+/// at their addresses, the pulse, requests to masters, their ends and late replies, and callbacks, except those about
+/// nodes within. A message of a master beyond is dropped in both or in neither, and answered alike if its call names
+/// nothing within. Each outbox keeps its room.
 pub fn step_both(
     a: &mut Book,
     b: &mut Book,
@@ -72,16 +74,16 @@ pub fn step_both(
     requires room_a { HasRoomFor a.old oa.old }
     requires room_b { HasRoomFor b.old ob.old }
 
-    // Each book is stepped, and its outbox holds what the step puts out.
+    // each book is stepped, and its outbox holds what the step puts out
     ensures book_a { a.new ≡ effect event.now a.old }
     ensures book_b { b.new ≡ effect (quiet_event m event.now) b.old }
     ensures out_a { Holds (outputs event.now a.old) oa.new }
     ensures out_b { Holds (outputs (quiet_event m event.now) b.old) ob.new }
 
-    // They have the objects and the chip as before, and agree beyond the reach.
+    // the books keep their objects and their chip, and agree beyond the reach
     ensures fixed { a.new.fixed ≡ a.old.fixed }
     ensures agree { Agree (border_in a.old m) a.new b.new }
-    // Beyond the reach values, modes and what is told are alike.
+    // values, modes and what is told are alike beyond the reach
     ensures values { IsValueAlike a.old.fixed.object a.old.fixed.topology (border_in a.old m) a.new b.new }
     ensures modes { IsModeAlike a.old.fixed.object a.old.fixed.topology (border_in a.old m) a.new b.new }
     ensures told { SameTold a.old.fixed.object a.old.fixed.topology (border_in a.old m)
@@ -100,13 +102,16 @@ pub fn step_both(
     b.step(other, ob);
 }
 
-/// One core event of a master's own in the one of two books, a message of it or the wait of a processor of it, and
-/// nothing in the other. The books have one loaded object, the same attached ones and one chip; each of these objects that
-/// can be in force is well formed, as `loaded_objects_are_objects` has it. They agree beyond the reach of the master; both
-/// outboxes were loaded for them. What is beyond that reach can't tell the two apart: the books have the same values and
-/// modes there, and neither step tells anything there. No memory is taken.
+/// Steps one book by an event of the master's own, and the other by nothing. The event is a message of master `m`, or
+/// the wait of one of its processors. Nothing beyond the reach of `m` can tell the two books apart. No memory is
+/// taken.
 ///
-/// Each outbox has the room that it had, which is that of the books' chip and masters.
+/// The books have the same loaded object, the same attached objects and the same chip. Each object that can be in
+/// force is well formed (`loaded_objects_are_objects`). The books agree beyond the reach, and each outbox was loaded
+/// for its book.
+///
+/// After the steps the books agree there, with equal values and modes, and neither step tells anything there. Each
+/// outbox keeps its room.
 pub fn step_left(
     a: &mut Book,
     b: &mut Book,
@@ -121,16 +126,16 @@ pub fn step_left(
     requires room_a { HasRoomFor a.old oa.old }
     requires room_b { HasRoomFor b.old ob.old }
 
-    // Each book is stepped, and its outbox holds what the step puts out.
+    // each book is stepped, and its outbox holds what the step puts out
     ensures book_a { a.new ≡ effect own_event.now a.old }
     ensures book_b { b.new ≡ effect Pass b.old }
     ensures out_a { Holds (outputs own_event.now a.old) oa.new }
     ensures out_b { Holds (outputs Pass b.old) ob.new }
 
-    // They have the objects and the chip as before, and agree beyond the reach.
+    // the books keep their objects and their chip, and agree beyond the reach
     ensures fixed { a.new.fixed ≡ a.old.fixed }
     ensures agree { Agree (border_in a.old m) a.new b.new }
-    // Beyond the reach values and modes are alike, and nothing is told there.
+    // values and modes are alike beyond the reach, and nothing is told there
     ensures values { IsValueAlike a.old.fixed.object a.old.fixed.topology (border_in a.old m) a.new b.new }
     ensures modes { IsModeAlike a.old.fixed.object a.old.fixed.topology (border_in a.old m) a.new b.new }
     ensures told_a { TellsNothing a.old.fixed.object a.old.fixed.topology (border_in a.old m)

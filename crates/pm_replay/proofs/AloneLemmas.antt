@@ -1,4 +1,4 @@
--- A line that is nothing but its own core event.
+-- A line that has only its own core event.
 use Rattle.std.proofs.Common.{◌≡◌, ℕ, true, List, [], ◌∷◌, ◌++◌, Option, None, Result, Ok, refl, sym, ◌∙◌, ap, subst}
 use Rattle.std.specs.Prelude.{⊤}
 use Rattle.std.proofs.lemmas.List.{append-nil}
@@ -22,7 +22,7 @@ use Rattle.pm_engine.specs.Progress.{Progress, stand_in}
 use Rattle.pm_replay.specs.Within.{RanCore, RanCores, is_alone}
 use Rattle.pm_replay.proofs.CoresLemmas.{IsUnderWay, RanCores-next}
 
--- what it is split into
+-- its core events
 pub alone_split : (c : Setup) (event : Event) (stand : Stand) → is_alone event ≡ true → split c event stand ≡ record { events = event ∷ []; boxes = stand.boxes; notes = [] }
 alone_split c (events.Ipi master message) stand is = refl
 alone_split c (events.Boot proc address) stand is = refl

@@ -87,8 +87,8 @@ module _ {O D : Type 0} (o : Sink.Ghosts O) (d : Device.Ghosts D) where
             (on-both o (step_text n bare.commands (notices_of (outputs event book)) answer) (given_text n (completed_cores modules (clocked_cores after_tree (G mid.kept)))) so_far far result old via new here rest.writes));
       }
 
-  -- part of the way: however the core events that are left are carried out, those of the whole line are carried out so, from where
-  -- the device was when they began; and the boxes that are left are those after the line
+  -- part of the way: the core events that are left are carried out so that those of the whole line are, from the
+  -- state of the device at its beginning; and the boxes that are left are those after the line
   pub record IsUnderWay (n : ℕ) (event : Event) (modules : List Ranged) (left : CoreEvents) (start now : Progress) (reply : Option Response) (so_far : Result ⊤ Failed) (first old : O) (begin dev : D) : Type 0 where
     pub fixed : now.book.fixed ≡ start.book.fixed
     pub still : now.clocks.told ≡ start.clocks.told

@@ -13,7 +13,7 @@ use Rattle.pm_replay.proofs.LeavesLemmas.{behind}
 
 -- ---- one line
 
--- a line that is driven from where a run stands
+-- a line that is driven from this state of a run
 abbrev pub driven_line : Setup → Event → Progress → List (List Bool) → Driven
 driven_line c event now answers = drive_line now.kept answers (line_of c event (stand_in now))
 

@@ -53,7 +53,7 @@ module _ {O D : Type 0} (o : Sink.Ghosts O) (d : Device.Ghosts D) (object : Obje
     abbrev from : World Moment O D
     from = record w { inputs = giving script_limit calls w.inputs }
 
-    -- memory was wanted
+    -- memory ran out
     pub ran_starved : Reports o (refusal Memory) w.sink w'.sink result → w.device ≡ w'.device → board ≡ is → IsRan w w' result calls
     ran_starved reports same stays = (
       replay_refused shown o d object t board is name from w' result Memory
@@ -97,7 +97,7 @@ module _ {O D : Type 0} (o : Sink.Ghosts O) (d : Device.Ghosts D) (object : Obje
       (λ calls both. is_given calls w w' result both.0 both.1)
       (meanwhile_same w.inputs w'.inputs (IsRan w w' result) (ReadsScript result (script_named name)) ran reads)
 
--- the script could not be begun
+-- the script couldn't be opened
 pub ran_unbegun : {O D : Type 0} (o : Sink.Ghosts O) (d : Device.Ghosts D) (object : Object) (t : Topology) (board : Standing) (name : List ℕ) (w w' : World Moment O D) (result : Exit)
     → Rose w.inputs.faults w'.inputs.faults → Reports o (refusal Read) w.sink w'.sink result → w.device ≡ w'.device → IsRan o d object t board board name w w' result (Begin name None ∷ [])
 ran_unbegun o d object t board name w w' result rose reports same = (

@@ -24,6 +24,6 @@ module _ {O : Type 0} (o : Sink.Ghosts O) where
   Leaves-cons piece pieces cut first mid last before after =
       Leaves-append (piece ∷ []) pieces cut first mid last (Wrote-is o.observable piece (piece ++ []) (o.state first) (o.state mid) (sym (append-nil piece)) before) after
 
-  -- the same up to a cut, where other pieces would have followed
+  -- so up to a cut, if other pieces would have followed
   pub Leaves-before : (pieces more : List (List ℕ)) (k : ℕ) (first last : O) → Leaves o pieces (Some k) first last → Leaves o (pieces ++ more) (Some k) first last
   Leaves-before pieces more k first last breaks = BreaksIn-before o pieces more k first last breaks

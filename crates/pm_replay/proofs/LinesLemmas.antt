@@ -64,7 +64,7 @@ module _ {O D : Type 0} (o : Sink.Ghosts O) (d : Device.Ghosts D) where
 
   -- ---- lines
 
-  -- lines of these events were run to their end, and the run and the board stand after them
+  -- lines of these events were run to their end, with the states of the run and the board after them
   record RanAll (c : Setup) (n : ℕ) (events : List Event) (now then : Progress) (old new : O) (from to : D) (board is : Standing) : Type 0 where
     pub answers : List (List Bool)
     pub went : Went o d (texts n (completed_from c board now answers events)) (driven_from c now answers events) None old new from to

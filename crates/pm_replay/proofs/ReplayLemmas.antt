@@ -106,11 +106,11 @@ module _ {I O D : Type 0} (i : Inputs.Ghosts I) (o : Sink.Ghosts O) (d : Device.
     touched = (drove, ran_s.tasks_left);
   }
 
-  -- where it is done the script came to its end
+  -- on Done the script came to its end
   pub replay_ended : (s : Script) → (read : i.observable → script_in (i.state w.inputs) name ≡ Some s) → (fails : result ≡ exit.ReadFault → Rose (i.state w.inputs).faults (i.state w'.inputs).faults) → (ran_s : RanScript o d (setup_for object t s.events) (ran s) w.sink w'.sink w.device w'.device board is result) → Drove d (setup_for object t s.events) (until ran_s.cut (script_driven object t ran_s.answers s.events)) w.device w'.device → i.observable → result ≡ exit.Done → s.stop ≡ AtEnd
   replay_ended s read fails ran_s drove seen done =
       (scripts.held_whole i o script_itself (replay_report object t board) (of_script object t board) name w.inputs w'.inputs w.sink w'.sink result (IsScriptOf i name w.inputs w'.inputs result) (λ job asked. asked) (Touched d object t board is w.device w'.device) (replay_ran s read fails ran_s drove) s refl seen done).0
 
-  -- the script could not be begun
+  -- the script couldn't be opened
   pub replay_unbegun : (i.observable → script_in (i.state w.inputs) name ≡ None) → Rose (i.state w.inputs).faults (i.state w'.inputs).faults → Reports o (refusal Read) w.sink w'.sink result → w.device ≡ w'.device → board ≡ is → Replayed i o d object t board is name w w' result
   replay_unbegun none rose reports same stays = replay_refused Read (scripts.asked_unbegun i name w.inputs w'.inputs result none rose) reports same stays

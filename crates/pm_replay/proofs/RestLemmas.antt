@@ -106,7 +106,7 @@ fault-anywhere m n reason.Limit = refl
 fault-anywhere m n reason.Failure = refl
 fault-anywhere m n reason.Unbegun = refl
 
--- what holds of a result where it is there
+-- a property of a result, if there is one
 pub in_ok : {A E : Type 0} (P : A → Type 0) (made : Result A E) (it : A) → made ≡ Ok it → IfOk made P → P it
 in_ok {A} {E} P made it is holds = subst (λ (r : Result A E). IfOk r P) is holds
 
@@ -123,7 +123,7 @@ is_loaded c object attached topology book kept boxes out clocks = record {
 pub setup_loaded : (book : State) (object : Object) (attached : List Attached) (topology : Topology) → book ≡ load_of object attached topology → setup_of book ≡ setup object book.fixed.attached topology
 setup_loaded book object attached topology is = subst (λ (b : State). setup_of b ≡ setup object b.fixed.attached topology) (sym is) refl
 
--- the same where all of it was made
+-- so, if all of it was made
 pub load_made : {E : Type 0} (made : Result Progress E) (now : Progress) (object : Object) (attached : List Attached) (t : Topology) → made ≡ Ok now
     → IfOk made (λ (c : Progress). c.book ≡ load_of object attached t) → IfOk made (λ (c : Progress). c.kept ≡ at_zero t)
     → IfOk made (λ (c : Progress). c.boxes ≡ (at_load (setup object attached t)).boxes) → IfOk made (λ (c : Progress). Holds (outputs_at_load c.book) c.outbox)
@@ -140,7 +140,7 @@ load_made made now object attached t is book kept boxes out clocks =
 tree_at_load : (now : Progress) → IsLoaded now → now.clocks.tree ≡ first_tree (setup_of now.book)
 tree_at_load now loaded = ap (λ (it : Clocked). it.tree) loaded.clocks.are ∙ ap (λ (b : State). tree_of b) loaded.book
 
--- where the tree is as it was told of, no clock has begun or ceased to run
+-- if the tree is as it was told, no clock has started or stopped
 unchanged : (on there : Bool) (number : ℕ) → (if there && not (alike on on) then Some (change number on on) else None) ≡ None
 unchanged on false number = refl
 unchanged true true number = refl

@@ -1,4 +1,4 @@
--- What a player does for a line of a script.
+-- The effects of a player for a line of a script.
 use Rattle.std.specs.Prelude.{◌≡◌, ℕ, Result, ⊤}
 use Rattle.pm_base.specs.declared.errors.Failed.{Failed}
 use Rattle.pm_base.specs.declared.events.Event.{Event}
@@ -12,7 +12,7 @@ use Rattle.pm_replay.specs.declared.lines.Player.{Player}
 use Rattle.pm_replay.specs.Within.{AreTold, RanLine}
 
 module _ {O D H T : Type 0} (o : Sink.Ghosts O) (d : Device.Ghosts D) (responder : Responder.Ghosts H) (handler : Handler.Ghosts T) where
-  -- it carries out the line, and holds what it held
+  -- it carries out the line, and goes on with the same parts
   pub record Plays (n : ℕ) (event : Event) (old new : Player O D H T) (result : Result ⊤ Failed) : Type 0 where
     pub ran : (c : Setup) → setup_of old.engine.now.book ≡ c → AreTold old.engine.now.clocks → RanLine o d c n event old.engine.now new.engine.now old.out.now new.out.now old.dev.now new.dev.now (standing responder handler old.modules.now old.tasks.now) (standing responder handler new.modules.now new.tasks.now) result
     pub engine : new.engine.ghost_name ≡ old.engine.ghost_name

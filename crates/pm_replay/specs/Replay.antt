@@ -1,4 +1,5 @@
--- The run of a script over a book and a device: what is written, where it breaks off, and what the device was given.
+-- The run of a script over a book and a device: its text, the point at which it breaks off, and the acts on the
+-- device.
 use Rattle.std.specs.Prelude.{◌≡◌, ◌+◌, ℕ, Bool, List, ◌++◌, length, Option, Result, Ok, Err}
 use Rattle.pm_device.specs.declared.device.Device as Device
 use Rattle.pm_board.specs.Board.{Standing}
@@ -16,22 +17,22 @@ use Rattle.pm_drive.specs.Completed.{completed_in, last_board}
 use Rattle.pm_drive.specs.Scripts.{script_driven}
 use Rattle.pm_drive.specs.Text.{closing_after, texts}
 
--- what is written of the run of these lines that begins with a board, under the device's answers: the closing table where
--- they came to their end
+-- the report of the run of these lines that begins with a board, under the device's answers; the closing table comes
+-- if they came to their end
 abbrev pub run_report : Setup → Standing → Script → List (List Bool) → Report
 run_report c board s answers = record {
   body = texts 0 (completed_in c board (driven c answers s.events)) ++ at_end s.stop (closing_after c (driven c answers s.events));
   fault = fault_at (1 + length s.events) s.stop;
 }
 
--- the run of a script over an object and a chip: its first lines attach what they attach before the load, and nothing
--- happens in them any more
+-- the run of a script over an object and a chip: the lines of its block attach objects before the load, and have no
+-- other effect
 abbrev pub replay_report : Object → Topology → Standing → Script → List (List Bool) → Report
 replay_report object t board s answers = run_report (setup_for object t s.events) board (ran s) answers
 
 module _ {D : Type 0} (d : Device.Ghosts D) where
-  -- the device was driven through the lines of a script up to that of the cut, which is carried out to its end, and the board
-  -- is as these lines leave it; or nothing was done to either
+  -- the device was driven through the lines of a script up to the one at the cut, which is carried out to its end,
+  -- and the board is as these lines leave it; or nothing was done to either
   abbrev pub Touched : Object → Topology → Standing → Standing → D → D → Result Script Fault → List (List Bool) → Option ℕ → Type 0
   Touched object t board is old new (Ok s) answers cut =
       Drove d (setup_for object t s.events) (until cut (script_driven object t answers s.events)) old new

@@ -1,4 +1,4 @@
--- What a replay of a named script did, on every exit, and what Done means.
+-- The effects of the replay of a named script, on every exit, and the promises of Done.
 use Rattle.std.specs.Prelude.{◌≡◌, ℕ, Bool, List, ◌++◌, Option}
 use Rattle.pm_base.specs.declared.errors.Exit.{Exit}
 use Rattle.pm_base.specs.declared.errors.Exit.TheVariants.{Done, ReadFault}
@@ -37,14 +37,14 @@ use Rattle.pm_apart.specs.Apart.{KeepsApart, StepsKeepApart}
 use Rattle.pm_replay.specs.Replay.{Touched, replay_report}
 
 module _ {I O D : Type 0} (i : Inputs.Ghosts I) (o : Sink.Ghosts O) (d : Device.Ghosts D) where
-  -- on every exit: what was asked for, what was written of it, what the device was given, and how the board is left
+  -- on every exit: what was asked for, how much of it was written, the acts on the device, and the state of the board
   abbrev pub Replayed : Object → Topology → Standing → Standing → List ℕ → World I O D → World I O D → Exit → Type 0
   Replayed object t board is name w w' exit =
       Did o (IsScriptOf i name w.inputs w'.inputs exit) (replay_report object t board)
       (Touched d object t board is w.device w'.device)
       w.sink w'.sink exit
 
-  -- a script was held under the name, the whole text of its run, with what its first lines attach, was written under the
+  -- a script was held under the name. The whole text of its run, with what its block attaches, was written under the
   -- device's answers, and the device was driven through that run
   pub record IsRun (object : Object) (t : Topology) (board is : Standing) (name : List ℕ) (w w' : World I O D) : Type 0 where
     pub script_bytes : List ℕ
@@ -57,8 +57,8 @@ module _ {I O D : Type 0} (i : Inputs.Ghosts I) (o : Sink.Ghosts O) (d : Device.
     pub tasks_left : is ≡ last_board board (script_driven object t answers events)
 
 module _ {O D : Type 0} (o : Sink.Ghosts O) (d : Device.Ghosts D) where
-  -- these calls were made to read the script, and what was asked for is what they gave, of whichever source: on Done a script that they
-  -- gave whole was run, and by what they gave the exit is decided
+  -- these calls read the script, from any source, and what they gave was asked for. On Done they gave a whole script,
+  -- which was run. The exit follows from what they gave
   pub record ReplayedGiven (object : Object) (t : Topology) (board is : Standing) (name : List ℕ) (calls : List Call)
       (w w' : World Moment O D) (exit : Exit) : Type 0 where
     pub reads : ReadsScript exit (script_named name) calls
@@ -69,8 +69,9 @@ module _ {O D : Type 0} (o : Sink.Ghosts O) (d : Device.Ghosts D) where
     pub read_cause : exit ≡ ReadFault → MayFail name script_limit (giving script_limit calls w.inputs)
 
 module _ {D : Type 0} (d : Device.Ghosts D) where
-  -- whichever run the device was driven through: nothing that a master sends changes what is beyond its reach, in the whole run
-  -- and in its lines alone, up to a cut, which are all that there is where a script stops at a fault or the text breaks off
+  -- for any run that the device was driven through: nothing that a master sends changes what is beyond its reach. It
+  -- is so for the whole run, and for its lines up to a cut, which are all there is if a script stops at a fault or
+  -- the text breaks off
   pub record RunsKeepApart (object : Object) (t : Topology) (old new : D) : Type 0 where
     pub run : (answers : List (List Bool)) (events : List Event)
         → Drove d (setup_for object t events) (script_driven object t answers events) old new
@@ -79,29 +80,29 @@ module _ {D : Type 0} (d : Device.Ghosts D) where
         → Drove d (setup_for object t events) (until cut (script_driven object t answers events)) old new
         → StepsKeepApart d (setup_for object t events) answers (passed events) cut old new
 
--- each answer of each run, before an internal error takes the place of success, has the causes of its own core event in the
+-- each answer of each run, before an internal error replaces a success, has the causes of its own core event in the
 -- book before it
 abbrev pub AnswersHaveCauses : Object → Topology → Type 0
 AnswersHaveCauses object t = (events : List Event) → HaveCauses (cores_in (run (setup_for object t events) (passed events)))
 
--- in each run each line that serves sends the messages in all boxes, each once and by rising mask of their masters, and leaves all
--- boxes empty
+-- in each run, each line that serves the boxes sends the message of each full box once, by rising mask of the
+-- masters, and leaves all boxes empty
 abbrev pub LinesServe : Object → Topology → Type 0
 LinesServe object t =
     (events : List Event)
     → EachServes (setup_for object t events) (loaded (setup_for object t events)).boxes (run (setup_for object t events) (passed events))
 
--- the line of a power call is the run of the events that it is lowered to, and a run of a script with power calls is the run
--- of the script with a line for each of these events in place of the call: the same core steps, commands and lines, but for
--- the numbers of the lines and the answers to power calls
+-- the line of a power call is the run of the events that it becomes. A run of a script with power calls is the run of
+-- the script with a line for each of these events in place of the call: it has the same core steps, commands and
+-- lines, except for the numbers of the lines and the answers to power calls
 pub record LowersCalls (object : Object) (t : Topology) : Type 0 where
   pub line : (attached : List Attached) → EachCallIsItsEvents (setup object attached t)
   pub script : (events : List Event) (answers : List (List Bool))
       → HaveSameSteps (setup_for object t events) (script_driven object t answers events)
       (driven (setup_for object t events) answers (lowered_script t (passed events)))
 
--- in each run that finds a board so, up to whichever cut: each line tells exactly the calls of tasks that are due in it, and a
--- task that is stored before and after was called as often as they tell, modulo 2 ^ 32
+-- in each run that begins with this board, up to any cut: each line tells exactly the calls of tasks that are due in
+-- it, and a task that is stored before and after was called as often as the lines tell, modulo 2 ^ 32
 abbrev pub TellsCalls : Object → Topology → Standing → Type 0
 TellsCalls object t board =
     (events : List Event) (answers : List (List Bool)) (cut : Option ℕ)
@@ -109,9 +110,9 @@ TellsCalls object t board =
     (completed_in (setup_for object t events) board (until cut (script_driven object t answers events))) board
     (last_board board (until cut (script_driven object t answers events))).tasks
 
--- in each run, at its load and after each core step: the clock tree is the one before with the call on a clock that was made in the
--- step, if it wasn't refused, and without the enables of masters that are off or may not use the clock's slave by the object in
--- force; a root runs where its slave is in a state other than 0, and any other clock where a master enables it and the parent that is
--- chosen for it runs
+-- in each run, at its load and after each core step: the clock tree is the one before, with the accepted call on a
+-- clock in the step, if there is one, and without the enables of masters that are off or may not use the clock's
+-- slave by the object in force. A root runs if its slave is in a state other than 0. Any other clock runs if a master
+-- enables it and its selected parent runs
 abbrev pub ClocksFollow : Object → Topology → Type 0
 ClocksFollow object t = (events : List Event) (answers : List (List Bool)) → ClocksStand (setup_for object t events) (script_driven object t answers events)

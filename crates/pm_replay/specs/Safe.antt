@@ -6,8 +6,8 @@ use Rattle.pm_device.specs.declared.device.Device as Device
 use Rattle.pm_apply.specs.Order.{IsOrdered}
 
 module _ {D : Type 0} (d : Device.Ghosts D) where
-  -- from values that are all 0, these acts in this order and nothing else were done to the device: at each command no node
-  -- is set to a value that needs power while its domain is down, and no domain is taken down under its users
+  -- exactly these acts were done to the device, in this order, from values that are all 0. At each command no node is
+  -- set to a value that needs power while its domain is down, and no domain is taken down under its users
   pub record IsSafe (t : Topology) (old new : D) : Type 0 where
     pub acts : List Act
     pub given : Chain d.Does acts old new

@@ -1,5 +1,5 @@
--- What the parts of a run do: what they write, what they do to the device, and how they end. No call of this crate's users
--- speaks of these words.
+-- The effects of the parts of a run: their text, the acts on the device, and their ends. No call of this crate's
+-- users speaks of these words.
 use Rattle.std.specs.Prelude.{◌≡◌, ℕ, ◌+◌, Bool, true, false, List, ◌++◌, length, Option, Some, None, Result, Ok, Err, ⊤}
 use Rattle.pm_base.specs.declared.errors.Exit.{Exit}
 use Rattle.pm_base.specs.declared.errors.Failed.{Failed}
@@ -41,8 +41,8 @@ use Rattle.pm_engine.specs.Progress.{AreOf, Progress, stand_in}
 use Rattle.pm_engine.specs.Writes.{WritesOn}
 use Rattle.pm_replay.specs.Replay.{run_report}
 
--- a line of this event has no core event but it, no note of its own, no act on the device beside its commands, and no answer to
--- a power call
+-- a line of this event has only this core event, no note of its own, no act on the device besides its commands, and
+-- no answer to a power call
 abbrev pub is_alone : Event → Bool
 is_alone (Post master message) = false
 is_alone Serve = false
@@ -52,7 +52,7 @@ is_alone (Break node) = false
 is_alone (Mend node) = false
 is_alone event = true
 
--- all is as at load, before the device is given anything
+-- the state at load, before the device gets any command
 pub record IsLoaded (c : Progress) : Type 0 where
   pub book : c.book ≡ load_of c.book.fixed.object c.book.fixed.attached c.book.fixed.topology
   pub kept : c.kept ≡ at_zero c.book.fixed.topology
@@ -60,23 +60,23 @@ pub record IsLoaded (c : Progress) : Type 0 where
   pub clocks : AreOf c.book c.clocks
   pub out : Holds (outputs_at_load c.book) c.outbox
 
--- what is told of clocks is as they are: between lines
+-- the clocks that are told are those that run: so it is between lines
 abbrev pub AreTold : Clocked → Type 0
 AreTold clocks = clocks.told ≡ running clocks.tree
 
--- the events of lines, driven from where a run stands
+-- the driven lines of these events, from this state of a run
 abbrev pub driven_from : Setup → Progress → List (List Bool) → List Event → List Driven
 driven_from c now answers events = drive now.kept answers (lines_of c events (stand_in now))
 
--- what is written after the last line of a script that came to its end or could not be read on
+-- the report after the last line of a script that came to its end or couldn't be read on
 abbrev pub closing_report : Stop → State → Kept → Tree → Report
 closing_report stop book kept tree = record { body = at_end stop (table_text book kept tree); fault = fault_at 0 stop }
 
--- the core steps of a line from where a run stands
+-- the core steps of a line, from this state of a run
 abbrev pub given_from : Setup → Event → Progress → List (List Bool) → List Given
 given_from c event now answers = give now.kept answers (cores_of (split c event (stand_in now)).events now.book)
 
--- what is told of lines from where a run stands, the first of which finds a board so
+-- the completed lines, from this state of a run and of the board
 abbrev pub completed_from : Setup → Standing → Progress → List (List Bool) → List Event → List Driven
 completed_from c board now answers events =
     completed_by board (clocked_by now.clocks.tree (driven_from c now answers events))
@@ -85,14 +85,15 @@ completed_from c board now answers events =
 abbrev pub table_from : Progress → List Driven → List ℕ
 table_from now xs = table_text (last_book now.book xs) (last_kept now.kept xs) (last_tree now.clocks.tree xs)
 
--- what is written of lines, the first of which has number n and finds a board so, and after them
+-- the report of lines, the first of which has number n and finds this board, and of what follows them
 abbrev pub report_from : Setup → Standing → ℕ → Progress → Script → List (List Bool) → Report
 report_from c board n now s answers = record {
   body = texts n (completed_from c board now answers s.events) ++ at_end s.stop (table_from now (driven_from c now answers s.events));
   fault = fault_at (n + length s.events) s.stop;
 }
 
--- how lines end: all were carried out, and the run stands after them; or one has no meaning; or the sink broke off
+-- the end of lines: all were carried out, with the state of the run after them; or one can't be read; or the sink
+-- broke off
 abbrev pub LinesEnd : ℕ → Script → Progress → List Driven → Option ℕ → Progress → Result reader.LinesEnd LineStop → Type 0
 LinesEnd n s now xs cut then (Ok end) =
     (cut ≡ None) × (s.stop ≡ stop_of end.stop) × (then.book ≡ last_book now.book xs) × (then.kept ≡ last_kept now.kept xs)
@@ -106,8 +107,8 @@ module _ {O D : Type 0} (o : Sink.Ghosts O) (d : Device.Ghosts D) where
     pub left : Leaves o all cut old new
     pub given : Chain d.Does (acts (until cut xs)) from to
 
-  -- a core event was carried out from a book, what is kept and a clock tree, the device was made to follow it, and its text was written,
-  -- by how the writing of the line stood before
+  -- a core event was carried out from a book, a record of kept values and a clock tree; the device was made to follow
+  -- it; and its text was written, if the line's text hadn't broken off before
   pub record RanCore (n : ℕ) (event : Event) (book : State) (kept : Kept) (tree : Tree) (then : Progress) (modules : List Ranged)
       (so_far result : Result ⊤ Failed) (old new : O) (from to : D) : Type 0 where
     pub after : then.book ≡ effect event book
@@ -118,8 +119,8 @@ module _ {O D : Type 0} (o : Sink.Ghosts O) (d : Device.Ghosts D) where
     pub given : Chain d.Does (orders_in then.outbox) from to
     pub writes : WritesOn o (step_text n then.outbox.done.items (notices_in then.outbox) (completed modules event then.outbox.answer)) so_far result old new
 
-  -- the driven steps of core events one after another, whatever becomes of their text, from the last reply that was told before
-  -- them to the last one that is told
+  -- the driven steps of core events one after another, whatever becomes of their text, from the last reply told
+  -- before them to the last one told
   pub record RanCores (n : ℕ) (events : List Event) (book : State) (kept : Kept) (tree : Tree) (then : Progress) (modules : List Ranged)
       (reply told : Option Response) (so_far result : Result ⊤ Failed) (old new : O) (from to : D) : Type 0 where
     pub answers : List (List Bool)
@@ -131,9 +132,9 @@ module _ {O D : Type 0} (o : Sink.Ghosts O) (d : Device.Ghosts D) where
     pub replied : told ≡ reply_after reply (completed_cores modules (clocked_cores tree (give kept answers (cores_of events book))))
     pub writes : WritesOn o (given_text n (completed_cores modules (clocked_cores tree (give kept answers (cores_of events book))))) so_far result old new
 
-  -- a line was carried out to its end: first a node was broken or mended, if it asks for that, and then its core events
-  -- followed. Its text was written as far as the sink took it, with the notes of clocks and of tasks and the answer to its power
-  -- call, by the last reply that was told, and the clocks and the board are as the line leaves them
+  -- a line was carried out to its end: a node was broken or mended if the line says so, and then came its core
+  -- events. Its text was written as far as the sink took it, with the notes of clocks and tasks and the answer to its
+  -- power call, by the last reply told. The clocks and the board are as the line leaves them
   pub record RanLine (c : Setup) (n : ℕ) (event : Event) (now then : Progress) (old new : O) (from to : D)
       (board is : Standing) (result : Result ⊤ Failed) : Type 0 where
     pub between : D
@@ -161,7 +162,7 @@ module _ {O D : Type 0} (o : Sink.Ghosts O) (d : Device.Ghosts D) where
     pub notices : notices_in then.outbox ≡ notices_of (outputs_at_load now.book)
     pub given : Chain d.Does (orders_in then.outbox) from to
 
-  -- the lines of a script were run up to the first one that has no meaning. The first of them has number n
+  -- the lines of a script were run up to the first one that can't be read; the first of them has number n
   pub record RanLines (c : Setup) (n : ℕ) (s : Script) (now then : Progress) (old new : O) (from to : D)
       (board is : Standing) (result : Result reader.LinesEnd LineStop) : Type 0 where
     pub answers : List (List Bool)
@@ -170,7 +171,7 @@ module _ {O D : Type 0} (o : Sink.Ghosts O) (d : Device.Ghosts D) where
     pub ends : LinesEnd n s now (driven_from c now answers s.events) cut then result
     pub tasks_left : is ≡ last_board board (until cut (driven_from c now answers s.events))
 
-  -- lines were run, and what comes after them was written
+  -- lines were run, and what follows them was written
   pub record RanRest (c : Setup) (n : ℕ) (s : Script) (now : Progress) (old new : O) (from to : D)
       (board is : Standing) (exit : Exit) : Type 0 where
     pub answers : List (List Bool)
@@ -179,7 +180,7 @@ module _ {O D : Type 0} (o : Sink.Ghosts O) (d : Device.Ghosts D) where
     pub ends : exit ≡ exit_of (report_from c board n now s answers) cut
     pub tasks_left : is ≡ last_board board (until cut (driven_from c now answers s.events))
 
-  -- a script that was begun was run from the load
+  -- an opened script was run from the load
   pub record RanScript (c : Setup) (s : Script) (old new : O) (from to : D) (board is : Standing) (exit : Exit) : Type 0 where
     pub answers : List (List Bool)
     pub cut : Option ℕ

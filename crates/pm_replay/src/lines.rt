@@ -1,4 +1,4 @@
-//! The lines of a script are run one after another.
+//! Running the lines of a script, one after another.
 
 ghost use Rattle.std.specs.Prelude.{◌≡◌, ◌≢◌, true, unwrap_or, IfOk};
 ghost use Rattle.pm_base.specs.Faults.{Rose};
@@ -31,7 +31,7 @@ use pm_run::call_answer;
 use pm_tasks::{Handler, TasksOf};
 use pm_trace::StepText;
 
-/// What carries out each line of a script, makes the device follow it, and writes its text.
+/// Carries out each line of a script, makes the device follow it, and writes its text.
 #[derive(Drop)]
 pub(crate) struct Player<'e, 'o, 'd, 'm, 't, O: Sink, D: Device, H: Drop, T: Drop> {
     engine: &'e mut Engine,
@@ -39,9 +39,9 @@ pub(crate) struct Player<'e, 'o, 'd, 'm, 't, O: Sink, D: Device, H: Drop, T: Dro
     dev: &'d mut D,
     modules: &'m ModulesOf<H>,
     tasks: &'t mut TasksOf<T>,
-    /// Where the core events stand that a line makes.
+    /// The room for a core event that isn't its line's own.
     made: Event,
-    /// Where the text of a core step stands before it is written.
+    /// The room for the text of a core step before it is written.
     text: StepText,
 }
 
@@ -68,8 +68,8 @@ impl<'e, 'o, 'd, 'm, 't, O: Sink, D: Device, H: Responder, T: Handler> Follower
     }
 }
 
-/// Runs the lines of a begun input up to the first one that has no meaning. Each is taken when the text of the
-/// line before it was written.
+/// Runs the lines of an opened input up to the first one that can't be read. Each line is read after the text of the
+/// one before was written. Its block was read before.
 pub(crate) fn run_lines<I: Inputs, O: Sink, D: Device, H: Responder, T: Handler>(
     engine: &mut Engine,
     front: &mut Front,
@@ -105,7 +105,7 @@ pub(crate) fn run_lines<I: Inputs, O: Sink, D: Device, H: Responder, T: Handler>
     front.follow(inputs, id, &mut player)
 }
 
-/// Carries a line out to its end, and writes its text while the sink takes it.
+/// Carries a line out to its end, and writes its text as long as the sink takes it. Fails if the sink does.
 #[inline(always)]
 fn run_line<O: Sink, D: Device, H: Responder, T: Handler>(
     number: u32,
@@ -130,8 +130,8 @@ fn run_line<O: Sink, D: Device, H: Responder, T: Handler>(
     }
 }
 
-/// Whether a line is nothing but its own core event: it has no other one and no note of its own, does nothing to the device
-/// beside it, and no power call is answered in it.
+/// Whether a line has only its own core event: no other one and no note of its own, no act on the device besides its
+/// commands, and no answer to a power call.
 fn is_alone(event: &Event) -> bool
     ensures { result ≡ is_alone event.now }
 {
@@ -146,7 +146,8 @@ fn is_alone(event: &Event) -> bool
     )
 }
 
-/// Carries out a line that is nothing but its own core event, as most lines are, and writes its text.
+/// Carries out a line that has only its own core event, as most lines do, and writes its text. Fails if the sink
+/// does.
 #[inline(always)]
 fn run_alone<O: Sink, D: Device, H: Responder, T: Handler>(
     number: u32,
@@ -170,7 +171,7 @@ fn run_alone<O: Sink, D: Device, H: Responder, T: Handler>(
     tasks_on(clocked, number, event, tasks, out)
 }
 
-/// Writes the lines of the core step of an event, with its answer as it is told.
+/// Writes the lines of an event's core step, with the answer that is told. Fails if the sink does.
 #[inline(always)]
 fn write_completed<O: Sink, H: Responder>(
     number: u32,
@@ -189,10 +190,10 @@ fn write_completed<O: Sink, H: Responder>(
     }
 }
 
-/// Breaks or mends a node of the device where the line asks for that, carries out the core events of the line to the
-/// last one, and writes the text of each, and then the line's own, those of clocks and of tasks, and the answer to its
-/// power call, while the sink takes it. Where the book replies to a call on a clock, the clocks' reply is told, and where
-/// it replies to a message whose API word is a module's, the module's response.
+/// Carries any line out to its end, and writes its text as long as the sink takes it. First a node of the device is
+/// broken or mended, if the line says so. Then come the core events, each with its text. Last come the lines of the
+/// line's own notes, of clocks, of tasks, and of the answer to a power call. The clocks' reply replaces the book's
+/// for a call on a clock, and a module's response for an API word of the module. Fails if the sink does.
 #[inline(never)]
 fn run_split<O: Sink, D: Device, H: Responder, T: Handler>(
     number: u32,
@@ -230,15 +231,15 @@ fn run_split<O: Sink, D: Device, H: Responder, T: Handler>(
     call_on(fired, number, called, out)
 }
 
-/// The answer to a core event as it is told: where the book replies to a message whose API word is a module's, what the
-/// module says stands in place of the reply.
+/// The answer that is told for a core event. A module's response replaces the book's reply to a message with an API
+/// word of the module.
 fn completed<H: Responder>(modules: &ModulesOf<H>, event: &Event, answer: &Answer) -> Answer
     ensures { result ≡ completed (ranges H.Responder modules.now) event.now answer.now }
 {
     said(modules, event, answer).unwrap_or(*answer)
 }
 
-/// The answer to a core event, where a module says it.
+/// The answer of a module to a core event, if a module answers it.
 fn said<H: Responder>(modules: &ModulesOf<H>, event: &Event, answer: &Answer) -> Option<Answer>
     ensures { completed (ranges H.Responder modules.now) event.now answer.now ≡ unwrap_or result answer.now }
 {
@@ -254,7 +255,7 @@ fn said<H: Responder>(modules: &ModulesOf<H>, event: &Event, answer: &Answer) ->
     }
 }
 
-/// The last reply of a line, as it is told: that of the last core step, if it has one.
+/// The last reply of a line that is told: that of this core step, if it has one, else the one before.
 fn later_reply(reply: Option<Response>, answer: &Answer) -> Option<Response>
     ensures { result ≡ later_reply reply answer.now }
 {

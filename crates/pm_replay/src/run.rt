@@ -1,4 +1,4 @@
-//! A script is run over a configuration object and a device.
+//! The run of a script over a configuration object and a device.
 
 ghost use Rattle.std.specs.Prelude.{◌≡◌, ◌≢◌, ◌⊎◌, IfOk};
 ghost use Rattle.pm_base.specs.declared.names.Unit.{Unit};
@@ -49,17 +49,16 @@ use pm_trace::{Fault, StepText, refuse};
 use std::alloc::Global;
 use std::mem::replace;
 
-/// Runs the named script over an object and a device. Step 0 makes the device follow the book at
-/// load. Then each line breaks or mends a node of the device, if it asks for that, is carried out,
-/// with the commands that it causes, the clocks that begin or cease to run and the calls of tasks that
-/// are due, and is written before the next one is taken. Then comes the closing table, or the fault
-/// line of the answer. Where the book replies to a call on a clock, the clocks' reply is written in
-/// place of the book's, and where it replies to a message whose API word is a module's, the module's
-/// response. Where the script can't be begun, no command is issued and no task is called. After the
-/// load nothing takes memory, so want of memory comes before the first command and the first byte of
-/// output.
+/// Runs the named script over an object and a device, and writes the text of the run. Step 0 makes the device follow
+/// the book at load. Then each line is carried out: a node of the device is broken or mended if the line says so,
+/// commands are given, clocks start or stop, and due tasks are called. A line's text is written before the next line
+/// is read. Last comes the closing table, or the fault line of the exit.
 ///
-/// Answers Done, BadLine, ReadFault, WriteFault, Memory and TooLarge.
+/// The clocks' reply replaces the book's for a call on a clock, and a module's response for an API word of the
+/// module. If the script can't be opened, no command is given and no task is called. Nothing takes memory after the
+/// load, so that want of memory comes before the first command and the first byte of output.
+///
+/// Returns Done, BadLine, ReadFault, WriteFault, Memory or TooLarge.
 pub fn replay<I: Inputs, O: Sink, D: Device, H: Responder, T: Handler>(
     alloc: Global,
     object: Object,
@@ -74,66 +73,65 @@ pub fn replay<I: Inputs, O: Sink, D: Device, H: Responder, T: Handler>(
     requires object { IsObject object }
     requires formed { IsWellFormed topology }
     requires idle { D.values_observable → (unit : Unit) → (D.state dev.old).value unit ≡ 0 }
-    // On Done the input held a script under the name, the whole text of its run was written, with what modules say
-    // and with the calls of tasks, and the device was driven through that run.
+    // On Done the input held a script under the name, and the whole text of its run was written, with the responses
+    // of modules and the calls of tasks. The device was driven through that run.
     ensures done { I.observable → O.observable → result ≡ Exit.Done
         → IsRun I.Inputs O.Sink D.Device object topology
         (standing H.Responder T.Handler modules.now tasks.old)
         (standing H.Responder T.Handler modules.now tasks.new) script.now
         (world inputs.old out.old dev.old) (world inputs.new out.new dev.new) }
-    // What the input holds decides the exit, unless memory is wanted or the sink fails.
+    // The exit follows from what the input holds, unless memory runs out or the sink fails.
     ensures decided { I.observable
         → EndsWith O.Sink (script_exit
         (script_or_fault (script_in (I.state inputs.old) script.now))) out.old out.new result }
-    // And of any input so of what the reads of the script gave: on Done they gave a script whole, which was run, and
-    // what they gave decides the exit.
+    // For any input, it follows from what the reads of the script gave: on Done they gave a whole script, which was
+    // run.
     ensures given { Meanwhile (I.state inputs.old) (I.state inputs.new) (λ calls. ReplayedGiven O.Sink D.Device object topology
         (standing H.Responder T.Handler modules.now tasks.old)
         (standing H.Responder T.Handler modules.now tasks.new) script.now calls
         (world (I.state inputs.old) out.old dev.old) (world (I.state inputs.new) out.new dev.new) result) }
     // On every exit: nothing was used without power, and no domain went down under its users.
     ensures safe { IsSafe D.Device topology dev.old dev.new }
-    // On every exit: what was asked for, what was written of it, what was done to the device, and how the tasks are
-    // left.
+    // On every exit: what was asked for, how much of it was written, what was done to the device, and the state of
+    // the tasks.
     ensures ran { Replayed I.Inputs O.Sink D.Device object topology
         (standing H.Responder T.Handler modules.now tasks.old)
         (standing H.Responder T.Handler modules.now tasks.new) script.now
         (world inputs.old out.old dev.old) (world inputs.new out.new dev.new) result }
-    // On every exit, of the run that the device was driven through: nothing that a master sends changes what is
+    // On every exit, for the run that the device was driven through: nothing that a master sends changes what is
     // beyond its reach.
     ensures keeps { RunsKeepApart D.Device object topology dev.old dev.new }
-    // Each answer of a run has its causes in the book before its step.
+    // Each answer in a run has its causes in the book before its step.
     ensures causes { AnswersHaveCauses object topology }
-    // Each line of a run that serves sends the messages in all boxes, each once and by rising mask of their masters,
-    // and leaves all boxes empty.
+    // Each line of a run that serves the boxes sends the message of each full box once, by rising mask of the
+    // masters, and leaves all boxes empty.
     ensures boxes { LinesServe object topology }
-    // The line of a power call is the run of the events that it is lowered to by the chip and the call alone, and then
-    // its answer; and so is a script with power calls the script with a line for each of these events.
+    // The line of a power call is the run of the events that it becomes by the chip and the call alone, and then its
+    // answer. So a script with power calls is the script with a line for each of these events.
     ensures calls { LowersCalls object topology }
-    // Each line of a run tells exactly the calls of tasks that are due in it, and a task that is stored before and
-    // after was called as often as the lines tell, modulo 2 ^ 32.
+    // Each line of a run tells exactly the calls of tasks that are due in it. A task that is stored before and after
+    // was called as often as the lines tell, modulo 2 ^ 32.
     ensures tasks { TellsCalls object topology (standing H.Responder T.Handler modules.now tasks.old) }
-    // In each run, at its load and after each core step, the clocks are those that the calls on them so far left, if
-    // they weren't refused, without the enables of masters that are off or may not use the clock's slave any more; a
-    // root runs where its slave is in a state other than 0, and any other clock where a master enables it and the
-    // parent that is chosen for it runs.
+    // In each run, at its load and after each core step, the clocks are as the accepted calls left them, without the
+    // enables of masters that are off or may not use the clock's slave any more. A root runs if its slave is in a
+    // state other than 0. Any other clock runs if a master enables it and its selected parent runs.
     ensures clocks { ClocksFollow object topology }
-    // On every exit, of any inputs: the script is begun once, and read to its end or to one byte past the limit, or up
-    // to a call that failed, or, where the run ends before, up to somewhere. Nothing else is begun or read.
+    // On every exit, for any inputs: the script is opened once, and read to its end, or to one byte past the limit,
+    // or to a call that failed, or to where the run ends. Nothing else is opened or read.
     ensures begun { Meanwhile (I.state inputs.old) (I.state inputs.new) (ReadsScript result (script_named script.now)) }
     // On Memory nothing was written but the fault line, as far as the sink took it.
     ensures memory { result ≡ Exit.Memory → IsStarved O.Sink out.old out.new }
     // On Memory the device is as before.
     ensures untouched { result ≡ Exit.Memory → dev.old ≡ dev.new }
-    // ReadFault comes only where the inputs' count of faults rose.
+    // ReadFault comes only if the inputs' count of faults rose.
     ensures read_fault { result ≡ Exit.ReadFault → Rose (I.state inputs.old).faults (I.state inputs.new).faults }
-    // Where the inputs are observable, ReadFault comes only where the name isn't there, has a failing byte
-    // within the limit, or no more inputs can be begun.
+    // If the inputs are observable, ReadFault comes only if the name isn't there, has a failing byte within the
+    // limit, or no more inputs can be opened.
     ensures read_cause { I.observable → result ≡ Exit.ReadFault
         → MayFail script.now script_limit (I.state inputs.old) }
-    // WriteFault comes only where a write failed, or took 0 of a piece that isn't empty.
+    // WriteFault comes only if a write failed, or took 0 bytes of a piece that isn't empty.
     ensures write_fault { result ≡ Exit.WriteFault → HasFailed (O.state out.old) (O.state out.new) }
-    // Done comes only where no write failed, and none took 0 of a piece that isn't empty.
+    // Done comes only if no write failed, and none took 0 bytes of a piece that isn't empty.
     ensures unfailed { result ≡ Exit.Done → IsUnfailed (O.state out.old) (O.state out.new) }
 {
     driven_runs_keep_apart::<D>();
@@ -155,7 +153,7 @@ pub fn replay<I: Inputs, O: Sink, D: Device, H: Responder, T: Handler>(
     exit
 }
 
-/// Runs the named script from the load of the object, where it can be read.
+/// Opens the named script and runs it from the load of the object. Refuses with Read if it can't be opened.
 fn run_named<I: Inputs, O: Sink, D: Device, H: Responder, T: Handler>(
     alloc: Global,
     object: Object,
@@ -182,22 +180,23 @@ fn run_named<I: Inputs, O: Sink, D: Device, H: Responder, T: Handler>(
     match inputs.begin(script) {
         Ok(id) => run_begun(alloc, object, topology, inputs, id, out, dev, board),
         Err(Failed) => {
-            // Let go here, at a type that is any, which costs less to prove.
+            // Dropped here, where their types are generic: that costs less to prove.
             drop((object, topology));
             refuse(Fault::Read, out)
         }
     }
 }
 
-/// An engine at load, with what the first lines of the script attach, before the device is given anything, and the
-/// script, whose first lines were read.
+/// An engine at load, with what the script's block attaches, before the device gets any command; and the script,
+/// whose block was read.
 #[derive(Drop)]
 struct Loaded {
     engine: Engine,
     front: Front,
 }
 
-/// Reads the block of an input that was just begun, and loads the book with what it attaches. All that takes memory.
+/// Reads the block of an input that was just opened, and loads the book with what it attaches: all that takes memory.
+/// Fails with `NoMemory`.
 fn load<I: Inputs>(
     alloc: Global,
     object: Object,
@@ -220,7 +219,8 @@ fn load<I: Inputs>(
     Ok(Loaded { engine, front })
 }
 
-/// Reads the block of an input that was just begun: the script, whose first lines were read, and what they attach.
+/// Reads the block of an input that was just opened: returns the script behind it, and what it attaches. Fails with
+/// `NoMemory`.
 fn read_block<I: Inputs>(
     alloc: Global,
     inputs: &mut I,
@@ -236,8 +236,8 @@ fn read_block<I: Inputs>(
     Ok((front, attached))
 }
 
-/// Runs the script of an input that was just begun from the load of the object, with what its first lines attach, unless
-/// memory is wanted: then the device and the tasks stay as they were.
+/// Runs the script in an input that was just opened, from the load of the object with what its block attaches.
+/// Without enough memory the exit is Memory, and the device and the tasks stay as they were.
 fn run_begun<I: Inputs, O: Sink, D: Device, H: Responder, T: Handler>(
     alloc: Global,
     object: Object,
@@ -276,8 +276,8 @@ fn run_begun<I: Inputs, O: Sink, D: Device, H: Responder, T: Handler>(
     }
 }
 
-/// Runs the script of an input that was begun, from its load, and writes its text. To tasks step 0 is a line in which
-/// nothing happens: calls that were left before are made.
+/// Runs a script from its load, and writes its text. To tasks step 0 is a line in which nothing happens: calls that
+/// were left before are made.
 fn run<I: Inputs, O: Sink, D: Device, H: Responder, T: Handler>(
     engine: &mut Engine,
     front: &mut Front,
@@ -310,7 +310,7 @@ fn run<I: Inputs, O: Sink, D: Device, H: Responder, T: Handler>(
     }
 }
 
-/// Runs the lines of a script, and writes what comes after them.
+/// Runs the lines of a script, and writes what follows them: the closing table, or a fault line.
 fn run_rest<I: Inputs, O: Sink, D: Device, H: Responder, T: Handler>(
     engine: &mut Engine,
     front: &mut Front,
@@ -340,8 +340,7 @@ fn run_rest<I: Inputs, O: Sink, D: Device, H: Responder, T: Handler>(
     }
 }
 
-/// Writes what comes after the last line: the closing table, or the line of the fault for which the
-/// script can't be read on.
+/// Writes what follows the last line: the closing table, or the fault line if the script can't be read on.
 fn finish<O: Sink>(engine: &Engine, stop: StopReason, out: &mut O) -> Exit
     requires begins { stop ≢ Unbegun }
     ensures { Reports O.Sink (closing_report

@@ -1,4 +1,4 @@
-//! What is done to a device in memory, by its log.
+//! The acts on a device in memory, by its log.
 
 ghost use Rattle.std.specs.Prelude.{◌≡◌, []};
 ghost use Rattle.pm_topology.specs.declared.topology.Topology.{Topology};
@@ -9,8 +9,8 @@ ghost use Rattle.pm_replay.specs.Safe.{IsSafe};
 
 use pm_device::{Device, ListedDevice, ModelDevice, chains_are_logged};
 
-/// If acts in a safe order lead from a new device in memory to how it is now, the acts that it logged are in a
-/// safe order: nothing was used without power, and no domain went down under its users.
+/// If acts in a safe order lead from a new device in memory to its state now, then its log is in a safe order:
+/// nothing was used without power, and no domain went down under its users.
 pub fn logged_acts_are_safe()
     ensures model { (t : Topology) (old new : Bench) → old.log ≡ [] → IsSafe ⟦<ModelDevice as Device>⟧ t old new
         → IsOrdered t (λ unit. 0) new.log }

@@ -1,4 +1,4 @@
--- Where what the words ask for is right and nothing fails, a run is done or wants memory.
+-- If all that the words ask for is right and nothing fails, a run ends with Done, or memory runs out.
 use Rattle.std.proofs.Common.{◌≡◌, ℕ, ◌+◌, ◌<◌, ◌≤◌, ◌⊎◌, Bool, true, false, List, length, Option, Some, None, Result, Ok, refl, sym, ◌∙◌, ap, subst, arith, inl, inr}
 use Rattle.std.specs.Prelude.{IsSome}
 use Rattle.std.proofs.lemmas.Bool.{cases_lt}
@@ -78,7 +78,7 @@ module _ (written : (bytes : List ℕ) (o : Object) → Reads bytes o → readin
   one_is_none : (one : ℕ) → one ≡ 1 → one ≡ 0 → ⊥
   one_is_none one is none = cc
 
-  -- where it holds bytes within its limit, and can be begun and can't fail, it is read to its end
+  -- a name is read to its end if it holds bytes within its limit, and can be opened and can't fail
   later_whole : (turn limit : ℕ) (m : Moment) (again : Bool) (name bytes : List ℕ) → (turn ≤ m.room → again ≡ true) → Holds m name bytes → length bytes ≤ limit → ((m.room < turn) ⊎ MayFail name limit m → ⊥) → later_prefix limit m again name ≡ all_of bytes
   later_whole turn limit m again name bytes more held fits sure =
       ap (λ (b : Bool). later_prefix limit m b name) (room_for m turn again more (λ few. sure (inl few)))
@@ -121,7 +121,7 @@ module _ (written : (bytes : List ℕ) (o : Object) → Reads bytes o → readin
 
   -- ---- the exit
 
-  -- where what a form reads is right and can't fail, Done is due
+  -- Done is due if all that a form reads is right and can't fail
   done_due : (f : Form) (ws : List (List ℕ)) (m : Moment) (again : Begins m) → ReadsRight f ws m → (FormMayFail (Some f) ws m → ⊥) → job_exit (asked_of f ws m again) ≡ exit.Done
   done_due f ws m again right sure =
       let p : Prefix = source_prefix f.source m (word 1 ws) in

@@ -69,7 +69,7 @@ due board work (Err fault) (Err cause) answers is = ap (λ (fault : Fault). exit
 due board work (Ok job) (Err cause) answers is = absurd is
 due board work (Err fault) (Ok asked) answers is = absurd is
 
--- all inputs can be begun
+-- all inputs can be opened
 all_begin : (m : Moment) → Begins m
 all_begin m = record { second = true; third = true; two = λ room. refl; three = λ room. refl }
 
@@ -98,7 +98,7 @@ module _ {I O : Type 0} (i : Inputs.Ghosts I) (o : Sink.Ghosts O) (say : ExitsSa
         by (inl ends) = let clash : true ≡ false = sym (early (Some f) result before) ∙ ap comes_before ends ∙ begun in cc
         by (inr broken) = let clash : true ≡ false = sym (early (Some f) result before) ∙ ap comes_before broken.0 in cc
 
-    -- where memory was wanted, the exit came before a run only if it is that of want of memory which comes first
+    -- if memory ran out, the exit came before a run only if want of memory comes first
     pub starved_first : did.job ≡ Err Memory → IsBeforeRun (Some f) result → StarvesFirst (Some f)
     starved_first is before = by before
       where
@@ -111,7 +111,7 @@ module _ {I O : Type 0} (i : Inputs.Ghosts I) (o : Sink.Ghosts O) (say : ExitsSa
         by (inr (inr (inl other))) = let clash : exit.Memory ≡ exit.BadText = sym ended ∙ other in cc
         by (inr (inr (inr at))) = at.1
 
-    -- where the script couldn't be begun the exit doesn't come before a run
+    -- if the script couldn't be opened the exit doesn't come before a run
     pub unread_late : did.job ≡ Err Read → IsBeforeRun (Some f) result → ⊥
     unread_late is before =
         let ended : result ≡ exit.ReadFault = did.ends ∙ ap (λ (j : Result Job Fault). exit_of (report_of (report board f.work) j did.answers) did.cut) is ∙ refused_exit Read did.cut in

@@ -69,6 +69,6 @@ lines_whole (line ∷ lines) (event ∷ events) is =
     let rest : map meaning lines ≡ map (λ event. Ok event) events = cc in
     ap (λ (means : Result Event LineFault). before means (script_from lines AtEnd)) first ∙ ap (before (Ok event)) (lines_whole lines events rest)
 
--- a script each of whose lines has a meaning comes to its end
+-- a script whose lines can all be read comes to its end
 pub script_whole : (bytes : List ℕ) (events : List Event) → IsScript bytes events → script_of (all_of bytes) ≡ Some (record { events = events; stop = AtEnd })
 script_whole bytes events means = ap (λ s. Some s) (lines_whole (lines_of bytes) events means)

@@ -71,7 +71,7 @@ module _ {I : Type 0} (i : Inputs.Ghosts I) (f : Form) (ws : List (List ℕ)) wh
   starved old new = record { shown = λ seen. inl refl; failed = λ e. absurd (memory_is_read e); known = tt }
 
   module _ (old new : I) (result : Result Subject Fault) (reads : ReadsSubject i.observable f ws (i.state old) (i.state new) result) (seen : i.observable) where
-    -- which later inputs can be begun
+    -- the later inputs that can be opened
     abbrev begins : (third : Bool) → (3 ≤ (i.state old).room → third ≡ true) → Begins (i.state old)
     begins third three = record {
       second = not (reads.between.room == 0);

@@ -97,7 +97,7 @@ module _ {I O D : Type 0} (i : Inputs.Ghosts I) (o : Sink.Ghosts O) (say : Exits
       by None did before = did.touched
       by (Some f) did before = of_job (drives f.work) did.job refl refl did.touched
         where
-          -- where memory was wanted before a run, no word names a topology
+          -- if memory ran out before a run, no word names a topology
           unnamed : (drive : Drives) → drive ≡ AsItWrites → StarvesBefore drive f.topology → f.topology ≡ None
           unnamed AsItWrites is first = first
           unnamed BeforeItWrites is first = absurd first

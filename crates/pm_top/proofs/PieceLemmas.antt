@@ -59,7 +59,7 @@ text_of_job TopologyText subject text named made = alone TopologyText subject te
 -- ---- what Done means
 
 module _ {I O : Type 0} (i : Inputs.Ghosts I) (o : Sink.Ghosts O) (ws : List (List ℕ)) (old mid : I) (sink sink' : O) (named : Option ℕ) (subject : Subject) (text : List ℕ) (seen : i.observable) (appended : (o.state sink').bytes ≡ (o.state sink).bytes ++ text) where
-  -- the same where the text is spelled so
+  -- so for a text with these bytes
   after : (other : List ℕ) → text ≡ other → (o.state sink').bytes ≡ (o.state sink).bytes ++ other
   after other same = appended ∙ ap (λ (text : List ℕ). (o.state sink).bytes ++ text) same
 

@@ -145,7 +145,7 @@ alone s name named ws calls none reads =
     subst (λ (o : Option ℕ). ReadsEach (source_named s name ++ topology_named o ws) calls) (sym none)
     (subst (λ (names : List Named). ReadsEach names calls) (sym (append-nil (source_named s name))) reads)
 
--- at the object, where the topology isn't read: a topology is named beside an object alone
+-- at the object, before any topology is read: only a form with an object may name a topology
 at_object : (fault : Fault) (s : Source) (name : List ℕ) (named : Option ℕ) (ws : List (List ℕ)) (calls : List Call) → (s ≢ source.Object → named ≡ None) → IsOfSource s fault → RefusedReads fault (source_named s name) calls → RefusedSubject fault (source_named s name) (topology_named named ws) calls
 at_object faults.Usage s name named ws calls plain of reads = absurd reads
 at_object (faults.Object fault) s name named ws calls plain of reads = reads

@@ -193,7 +193,7 @@ module _ (f : Form) where
 
   -- ---- an object, its topology and a master
 
-  -- they were read: the object, the topology, and a master where a word names one
+  -- they were read: the object, the topology, and a master if a word names one
   pub record WasRead (ws : List (List ℕ)) (p : Prefix) (t : Result Topology Fault) (subject : Subject) : Type 0 where
     pub object : object_by f.source p ≡ Ok subject.object
     pub topology : t ≡ Ok subject.topology
@@ -266,7 +266,7 @@ module _ (f : Form) where
     pub topology_held : shown → HoldsTopology f.topology ws before subject.topology
     topology_held seen = then_held shown ws reads.between after f.topology before subject.topology (first_files seen) topology_read seen
 
--- what was answered is what was read, where it isn't want of memory
+-- the result is what was read, unless memory ran out
 pub known_read : {R : Type 0} (subject : Subject) → (◌≡◌ {A = Result Subject Fault} (Ok subject) (Err Memory)) ⊎ R → R
 known_read subject (inl memory) = absurd (ok_is_err memory)
 known_read subject (inr read) = read

@@ -65,7 +65,7 @@ number_read shown name m result (inr is) = inr (record { prefix = itself name; r
     says None is = subst (λ (v : Result Object Fault). IfOk v (λ object. object ≡ laboratory)) is tt
     says (Some n) is = subst (λ (v : Result Object Fault). IfOk v (λ object. object ≡ laboratory)) is refl
 
--- nothing is read where there is no word
+-- without a word nothing is read
 pub nothing_read : (shown : Type 0) (name : List ℕ) (m : Moment) (result : Result Object Fault) → (result ≡ Err Memory) ⊎ (Ok laboratory ≡ result) → (result ≡ Err Memory) ⊎ ReadsAs source.Nothing shown name m m result
 nothing_read shown name m result (inl memory) = inl memory
 nothing_read shown name m result (inr is) = inr (record { prefix = itself name; read = (refl, refl); given = tt; is = is; says = subst (λ (v : Result Object Fault). IfOk v (λ object. object ≡ laboratory)) is refl })
@@ -80,7 +80,7 @@ rooms limit (Some file) room full is = grind (arith, nat_tests)
 pub later_is : (limit : ℕ) (m mid : Moment) (name : List ℕ) → mid.file name ≡ m.file name → prefix_of limit (mid.file name) mid.room ≡ later_prefix limit m (not (mid.room == 0)) name
 later_is limit m mid name file = ap (λ (f : Option File). prefix_of limit f mid.room) file ∙ rooms limit (m.file name) mid.room (mid.room == 0) refl
 
--- so many inputs were begun, and there was room for more
+-- so many inputs were opened, and there was room for more
 pub more : (before after n : ℕ) (full : Bool) → (after == 0) ≡ full → before ≤ after + n → n + 1 ≤ before → not full ≡ true
 more before after n true is room some = let none : after ≡ 0 = (Decides-eqb after 0).0 is in absurd (omega arith)
 more before after n false is room some = refl

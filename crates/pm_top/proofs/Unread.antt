@@ -21,7 +21,7 @@ use Rattle.pm_top.specs.Done.{report}
 some_is : {X : Type 0} {x y : X} → ◌≡◌ {A = Option X} (Some x) (Some y) → x ≡ y
 some_is e = cc
 
--- an input could not be begun, or a read of it failed
+-- an input couldn't be opened, or a read of it failed
 abbrev pub FailsToRead : Result Job Fault → Type 0
 FailsToRead (Ok job) = job.asked.script.stop ≡ Failed
 FailsToRead (Err fault) = fault ≡ Read
@@ -37,7 +37,7 @@ fails board work (Err fault) answers is = some_is is
 fails board work (Ok job) answers is = failed_stop (1 + length job.asked.script.events) job.asked.script.stop is
 
 module _ {I : Type 0} (i : Inputs.Ghosts I) where
-  -- what is known of a job before the exit is: where an input can't be read the count rose
+  -- the state of a job before its exit: if an input can't be read the count rose
   pub record IsAskedFor (f : Form) (ws : List (List ℕ)) (old new : I) (job : Result Job Fault) : Type 0 where
     pub shown : i.observable → (job ≡ Err Memory) ⊎ IsJobOf f ws (i.state old) job
     pub failed : FailsToRead job → Rose (i.state old).faults (i.state new).faults

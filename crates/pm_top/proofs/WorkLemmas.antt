@@ -150,7 +150,7 @@ module _ {I O D : Type 0} (i : Inputs.Ghosts I) (o : Sink.Ghosts O) (d : Device.
             text.found (λ number. absurd (unnumbered piece number)) (ap one_piece (sym text.is)) (λ cut. (did.device, did.still)) one.reports
       ]
 
-  -- a script that can't be begun, and want of memory, come after the device was fitted
+  -- a script that can't be opened, and want of memory, come after the device was fitted
   left_fitted : (named : Option ℕ) (subject : Subject) (start : D) (fault : Fault) → ReadsSubject i.observable (form_of Replay named) ws (i.state old) (i.state mid) (Ok subject) → IsFitted d named subject.topology dev start → start ≡ dev' → (◌≡◌ {A = Result Script Fault} (Err fault) (Err Read)) ⊎ (◌≡◌ {A = Result Script Fault} (Err fault) (Err Memory)) → LeftBy d fault named (IsShown i o d (form_of Replay named) ws (world old sink dev)) dev dev'
   left_fitted named subject start fault reads fitted same known = elim known [
     | inl read ↦ subst left (sym (err_is read)) may
@@ -193,7 +193,7 @@ module _ {I O D : Type 0} (i : Inputs.Ghosts I) (o : Sink.Ghosts O) (d : Device.
   of_lines : (subject : Subject) → ReadsSubject i.observable (form_of Make None) ws (i.state old) (i.state mid) (Ok subject) → IsOfLines subject
   of_lines subject reads = record { object = reads.says; topology = is_chip (form_of Make None) i.observable ws (i.state old) (i.state mid) subject reads; lines = (was_read (form_of Make None) ws reads.prefix reads.topology subject reads.is).lines }
 
-  -- a script that is made was run before its summary was written, or memory is wanted
+  -- a generated script was run before its summary was written, or memory ran out
   made_ran : (subject : Subject) → ReadsSubject i.observable (form_of Make None) ws (i.state old) (i.state mid) (Ok subject) → Makes o d subject.object subject.topology board is subject.lines sink sink' dev dev' result → mid ≡ new → RanForm i o d (Some (form_of Make None)) ws board is (world old sink dev) (world new sink' dev') result
   made_ran subject reads did same = elim did [
     | inl starves ↦ late starves
@@ -259,7 +259,7 @@ module _ {I O D : Type 0} (i : Inputs.Ghosts I) (o : Sink.Ghosts O) (d : Device.
   after : (text other : List ℕ) → text ≡ other → (o.state sink').bytes ≡ (o.state sink).bytes ++ text → (o.state sink').bytes ≡ (o.state sink).bytes ++ other
   after text other same appended = appended ∙ ap (λ (text : List ℕ). (o.state sink).bytes ++ text) same
 
-  -- the lines that are asked for, where the laboratory's object is
+  -- the number of lines, if the object is the laboratory's
   asked_lines : (lines : Option ℕ) (object : Object) → laboratory_if lines ≡ Ok object → lines ≡ Some (unwrap_or lines 0)
   asked_lines None object is = absurd (err_is_ok is)
   asked_lines (Some n) object is = refl

@@ -1,4 +1,4 @@
--- When a run has to end in Done: what the words ask for is right by what the inputs hold, and nothing fails.
+-- The runs that have to end in Done: what the words ask for is right by what the inputs hold, and nothing fails.
 use Rattle.std.specs.Prelude.{◌≡◌, ◌≢◌, ℕ, ◌≤◌, ◌⊎◌, List, length, Option, Some, None, IsSome, ⊤}
 use Rattle.pm_base.specs.declared.errors.Exit.{Exit}
 use Rattle.pm_base.specs.declared.errors.Exit.TheVariants as exit
@@ -28,22 +28,22 @@ use Rattle.pm_top.specs.Form.{form}
 use Rattle.pm_top.specs.Words.{word}
 use Rattle.pm_top.specs.Ran.{InputsMayFail}
 
--- ---- what is right
+-- ---- right words and inputs
 
--- bytes that spell this object are held under a name, or a text that means it; or the name is a number of lines, and the
--- object the laboratory's
+-- the object's bytes or its text are held under a name; or the name is a number of lines, and the object the
+-- laboratory's
 abbrev pub HoldsObject : Source → Moment → List ℕ → Object → Type 0
 HoldsObject source.Object m name object = (bytes : List ℕ) × Holds m name bytes × Reads bytes object
 HoldsObject source.Text m name object = (bytes : List ℕ) × Holds m name bytes × Means bytes object
 HoldsObject source.Number m name object = IsSome (lines_asked name) × (object ≡ laboratory)
 HoldsObject source.Nothing m name object = object ≡ laboratory
 
--- the word at a place names a master of an object, where a form has such a word
+-- the word at a place names a master of the object, if the form has such a place
 abbrev pub NamesMaster : Option ℕ → List (List ℕ) → Object → Type 0
 NamesMaster None ws object = ⊤
 NamesMaster (Some k) ws object = IsSome (master_of object (word k ws))
 
--- a script within the limit is held under a name, and each of its lines has a meaning
+-- a script within the limit is held under a name, and each of its lines can be read
 pub record HoldsScript (m : Moment) (name : List ℕ) : Type 0 where
   pub bytes : List ℕ
   pub events : List Event
@@ -51,12 +51,12 @@ pub record HoldsScript (m : Moment) (name : List ℕ) : Type 0 where
   pub short : length bytes ≤ script_limit
   pub means : IsScript bytes events
 
--- the same under the word at a place, where a form has such a word
+-- the word at a place names such a script, if the form has such a place
 abbrev pub NamesScript : Option ℕ → List (List ℕ) → Moment → Type 0
 NamesScript None ws m = ⊤
 NamesScript (Some k) ws m = HoldsScript m (word k ws)
 
--- what a form reads is right
+-- all that a form reads is right
 pub record ReadsRight (f : Form) (ws : List (List ℕ)) (m : Moment) : Type 0 where
   pub object : Object
   pub topology : Topology
@@ -65,7 +65,7 @@ pub record ReadsRight (f : Form) (ws : List (List ℕ)) (m : Moment) : Type 0 wh
   pub master : NamesMaster f.node ws object
   pub script : NamesScript f.script ws m
 
--- words without a form are not right
+-- words without a form aren't right
 abbrev pub FormIsRight : Option Form → List (List ℕ) → Moment → Type 0
 FormIsRight None ws m = ⊥
 FormIsRight (Some f) ws m = ReadsRight f ws m
@@ -74,11 +74,12 @@ FormIsRight (Some f) ws m = ReadsRight f ws m
 abbrev pub IsRight : List (List ℕ) → Moment → Type 0
 IsRight ws m = FormIsRight (form ws) ws m
 
--- ---- what follows
+-- ---- the consequence
 
 module _ {I O D : Type 0} (i : Inputs.Ghosts I) (o : Sink.Ghosts O) (d : Device.Ghosts D) where
-  -- What the words ask for is right, the inputs show no cause of a fault, and the sink doesn't fail: then the exit is Done and
-  -- all was done, or memory is wanted. Over inputs that show nothing there is no fault of reading unless their count rose
+  -- If the words and inputs are right, the inputs show no cause of a fault, and the sink doesn't fail, then the exit
+  -- is Done and all was done, or memory ran out. Over any inputs there is no ReadFault unless their count of faults
+  -- rose
   pub record IsComplete (ws : List (List ℕ)) (board is : Standing) (w w' : World I O D) (result : Exit) : Type 0 where
     pub done : i.observable → IsRight ws (i.state w.inputs) → (InputsMayFail ws (i.state w.inputs) → ⊥)
         → (HasFailed (o.state w.sink) (o.state w'.sink) → ⊥)

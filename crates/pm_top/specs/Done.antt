@@ -1,4 +1,4 @@
--- What each work writes, and what Done means for it. No limit, no reason to stop and no cut occurs in Done.
+-- The text of each work, and the promises of Done for it. Done has no limit, no reason to stop and no cut.
 use Rattle.std.specs.Prelude.{◌≡◌, ◌⊎◌, ℕ, ◌+◌, Bool, List, [], ◌∷◌, ◌++◌, length, unwrap_or, Option, Some, None}
 use Rattle.pm_base.specs.declared.errors.Exit.{Exit}
 use Rattle.pm_base.specs.declared.errors.Exit.TheVariants.{Done}
@@ -50,13 +50,13 @@ use Rattle.pm_top.specs.declared.reading.Subject.{Subject}
 use Rattle.pm_top.specs.Within.{Writes}
 use Rattle.pm_top.specs.Words.{word}
 
--- ---- what is written
+-- ---- the text
 
--- the number of a master that no word names
+-- the number of a master if no word names one
 abbrev pub no_master : NodeId
 no_master = record { 0 = 0 }
 
--- the pieces that a work writes of its job, where there is a board, under the device's answers
+-- the pieces that a work writes for its job, with a board, under the device's answers
 abbrev pub body_of : Standing → Work → Job → List (List Bool) → List (List ℕ)
 body_of board Replay job answers = (replay_report job.asked.subject.object job.asked.subject.topology board job.asked.script answers).body
 body_of board Isolate job answers =
@@ -66,20 +66,20 @@ body_of board Make job answers =
     summary job.asked.subject.lines (script_text job.asked.subject.object job.asked.subject.topology board answers job.events) ∷ []
 body_of board (Write piece) job answers = piece_text piece job.asked.subject job.members ∷ []
 
--- and then the fault at which its script stops, if it does
+-- these pieces, and then the fault at which its script stops, if it does
 abbrev pub report : Standing → Work → Job → List (List Bool) → Report
 report board work job answers = record {
   body = body_of board work job answers;
   fault = fault_at (1 + length job.asked.script.events) job.asked.script.stop;
 }
 
--- ---- what Done means
+-- ---- the promises of Done
 
 module _ {I O : Type 0} (i : Inputs.Ghosts I) (o : Sink.Ghosts O) where
-  -- an object and a script were held under the first two names, the third one names a master of the object, and what was
-  -- written is what that master can reach, each unit whose transitions differ between the run of the script and the run
-  -- without the messages of the master, and the number of script lines. Each such unit is in that reach, or a processor of a
-  -- master that is. The runs are over the chip, or over the topology of the text that was held under a fourth name
+  -- an object and a script were held under the first two names, and the third word names a master of the object. The
+  -- text is the reach of that master, each unit whose transitions differ between the run of the script and the run
+  -- without the master's messages, and the number of script lines. Each such unit is in that reach, or is a processor
+  -- of a master that is. Both runs are over the chip, or over the topology whose text was held under a fourth name
   pub record IsIsolated (named : Option ℕ) (ws : List (List ℕ)) (inputs : I) (old new : O) : Type 0 where
     pub object_bytes : List ℕ
     pub script_bytes : List ℕ
@@ -99,8 +99,8 @@ module _ {I O : Type 0} (i : Inputs.Ghosts I) (o : Sink.Ghosts O) where
     pub listed : AreListed (setup_for object topology events) master members (passed events)
 
 module _ {O D : Type 0} (o : Sink.Ghosts O) (d : Device.Ghosts D) where
-  -- the word is a number of lines, and the summary was written of the run of the script of so many lines over the laboratory's
-  -- object, through which the device was driven. The tasks are left as that run leaves them
+  -- the word is a number of lines. The text is the summary of the run of the generated script of so many lines over
+  -- the laboratory's object. The device was driven through that run, and the tasks are left as it leaves them
   pub record IsMade (ws : List (List ℕ)) (board is : Standing) (sink sink' : O) (device device' : D) : Type 0 where
     pub n : ℕ
     pub events : List Event
@@ -112,7 +112,7 @@ module _ {O D : Type 0} (o : Sink.Ghosts O) (d : Device.Ghosts D) where
     pub tasks_left : is ≡ last_board board (script_driven laboratory chip answers events)
 
 module _ {I O D : Type 0} (i : Inputs.Ghosts I) (o : Sink.Ghosts O) (d : Device.Ghosts D) where
-  -- what a work asks for was done. A replay and a run that is made drive the device and call tasks, and nothing else touches them
+  -- a work was done. A replay and a generated run drive the device and call tasks; nothing else touches them
   abbrev pub WorkDone : Work → Option ℕ → List (List ℕ) → Standing → Standing → World I O D → World I O D → Type 0
   WorkDone Replay named ws board is w w' = IsReplayed i o d named ws board is w w'
   WorkDone Isolate named ws board is w w' = IsIsolated i o named ws w.inputs w.sink w'.sink × ((w.device ≡ w'.device) × (board ≡ is))
@@ -129,9 +129,9 @@ module _ {I O D : Type 0} (i : Inputs.Ghosts I) (o : Sink.Ghosts O) (d : Device.
   abbrev pub IsDone : List (List ℕ) → Standing → Standing → World I O D → World I O D → Type 0
   IsDone ws board is w w' = DoneIf (request_of ws) ws board is w w'
 
-  -- ---- what a work does to its subject, with the script of a name
+  -- ---- the effects of a work on its subject, with the script of a name
 
-  -- a text of which this holds was written, or memory is wanted; nothing else was done
+  -- such a text was written, or memory ran out; nothing else was done
   pub record OnlyWrites (Made : List ℕ → Type 0) (board is : Standing) (w w' : World I O D) (exit : Exit) : Type 0 where
     pub writes : Writes o Made w.sink w'.sink exit
     pub inputs : w.inputs ≡ w'.inputs
@@ -145,14 +145,14 @@ module _ {I O D : Type 0} (i : Inputs.Ghosts I) (o : Sink.Ghosts O) (d : Device.
     pub device : w.device ≡ w'.device
     pub still : board ≡ is
 
-  -- memory was wanted before anything was done
+  -- memory ran out before anything was done
   pub record Starved (board is : Standing) (w w' : World I O D) (exit : Exit) : Type 0 where
     pub reports : Reports o (refusal Memory) w.sink w'.sink exit
     pub inputs : w.inputs ≡ w'.inputs
     pub device : w.device ≡ w'.device
     pub still : board ≡ is
 
-  -- a device was fitted if a word names a topology, and then a script was run
+  -- the device was fitted if a word names a topology, and then a script was run
   pub record ReplaysFitted (named : Option ℕ) (object : Object) (t : Topology) (board is : Standing) (name : List ℕ) (w w' : World I O D) (exit : Exit) : Type 0 where
     pub start : D
     pub fitted : IsFitted d named t w.device start
@@ -161,7 +161,7 @@ module _ {I O D : Type 0} (i : Inputs.Ghosts I) (o : Sink.Ghosts O) (d : Device.
     pub given : Meanwhile (i.state w.inputs) (i.state w'.inputs) (λ calls. ReplayedGiven o d object t board is name calls
         (world (i.state w.inputs) w.sink start) (world (i.state w'.inputs) w'.sink w'.device) exit)
 
-  -- the same, or memory was wanted for the fit
+  -- so, or memory ran out for the fit
   abbrev pub Replays : Option ℕ → Object → Topology → Standing → Standing → List ℕ → World I O D → World I O D → Exit → Type 0
   Replays named object t board is name w w' exit = Starved board is w w' exit ⊎ ReplaysFitted named object t board is name w w' exit
 

@@ -1,5 +1,5 @@
--- The forms of the words of the program: what each of them reads, and its work; and of those that write one piece, what it is, and
--- what Done means.
+-- The forms of the program's words: the inputs and the work of each; for those that write one piece, the piece and
+-- the promises of Done.
 use Rattle.std.specs.Prelude.{◌≡◌, ℕ, List, [], ◌∷◌, ◌++◌, codes, if◌then◌else◌, Option, Some, None, Ok}
 use Rattle.std.specs.Str.{bytes_eq}
 use Rattle.pm_io.specs.declared.inputs.Inputs as Inputs
@@ -31,9 +31,10 @@ use Rattle.pm_top.specs.Fit.{HoldsTopology}
 use Rattle.pm_top.specs.Within.{IsReachText, IsTopologyText}
 use Rattle.pm_top.specs.Words.{word}
 
--- ---- what is read
+-- ---- the inputs of a form
 
--- `print OBJ`, `build TEXT`, `table`, `reach OBJ NODE`: what a piece is read from, and the place of the word that names a master
+-- `print OBJ`, `build TEXT`, `table`, `reach OBJ NODE`: the source of a piece, and the place of the word that names a
+-- master
 abbrev pub piece_source : Piece → Source
 piece_source Reach = source.Object
 piece_source ObjectText = source.Object
@@ -46,19 +47,18 @@ piece_node ObjectText = None
 piece_node ObjectBytes = None
 piece_node TopologyText = None
 
--- a topology is named beside an object alone
+-- a topology may be named only if the form reads an object
 abbrev pub beside : Source → Option ℕ → Option ℕ
 beside source.Object named = named
 beside source.Text named = None
 beside source.Number named = None
 beside source.Nothing named = None
 
--- what a work reads that is done over the topology that a word names: what the first name is, and the places of the words that
--- name a master and a script
+-- the form of a work, by the kind of its first name and the places of the words that name a master and a script
 abbrev pub reads : Source → Option ℕ → Option ℕ → Work → Option ℕ → Form
 reads from node script work named = record { source = from; topology = beside from named; node = node; script = script; work = work }
 
--- `replay OBJ SCRIPT`, `isolate OBJ SCRIPT NODE`, `make N`, and what writes a piece
+-- `replay OBJ SCRIPT`, `isolate OBJ SCRIPT NODE`, `make N`, and the forms that write a piece
 abbrev pub form_of : Work → Option ℕ → Form
 form_of Replay named = reads source.Object None (Some 2) Replay named
 form_of Isolate named = reads source.Object (Some 3) (Some 2) Isolate named
@@ -77,11 +77,11 @@ over_chip work = Some (over None work)
 abbrev pub over_named : Work → ℕ → Option Request
 over_named work place = Some (over (Some place) work)
 
--- what one word asks for
+-- the request of one word
 abbrev pub request_of_one : List ℕ → Option Request
 request_of_one first = if bytes_eq first (codes "table") then over_chip (Write TopologyText) else None
 
--- what two words ask for by the first
+-- the request of two words, by the first
 abbrev pub request_of_two : List ℕ → Option Request
 request_of_two first =
     if bytes_eq first (codes "print") then over_chip (Write ObjectText)
@@ -89,14 +89,14 @@ request_of_two first =
     else if bytes_eq first (codes "make") then over_chip Make
     else None
 
--- what three words ask for by the first
+-- the request of three words, by the first
 abbrev pub request_of_three : List ℕ → Option Request
 request_of_three first =
     if bytes_eq first (codes "replay") then over_chip Replay
     else if bytes_eq first (codes "reach") then over_chip (Write Reach)
     else None
 
--- what four words ask for by the first
+-- the request of four words, by the first
 abbrev pub request_of_four : List ℕ → Option Request
 request_of_four first =
     if bytes_eq first (codes "isolate") then over_chip Isolate
@@ -104,11 +104,11 @@ request_of_four first =
     else if bytes_eq first (codes "reach") then over_named (Write Reach) 3
     else None
 
--- what five words ask for by the first
+-- the request of five words, by the first
 abbrev pub request_of_five : List ℕ → Option Request
 request_of_five first = if bytes_eq first (codes "isolate") then over_named Isolate 4 else None
 
--- the first word and the number of words decide
+-- the request of the words, by the first and their number
 abbrev pub request_of : List (List ℕ) → Option Request
 request_of (first ∷ []) = request_of_one first
 request_of (first ∷ second ∷ []) = request_of_two first
@@ -117,16 +117,16 @@ request_of (first ∷ second ∷ third ∷ fourth ∷ []) = request_of_four firs
 request_of (first ∷ second ∷ third ∷ fourth ∷ fifth ∷ []) = request_of_five first
 request_of words = None
 
--- the form of a request, where there is one
+-- the form of a request, if there is one
 abbrev pub form_if : Option Request → Option Form
 form_if None = None
 form_if (Some request) = Some (form_of request.work request.topology)
 
--- the form of the words, where they have one
+-- the form of the words, if they have one
 abbrev pub form : List (List ℕ) → Option Form
 form ws = form_if (request_of ws)
 
--- the place of the word that names the topology, where there is such a word
+-- the place of the word that names the topology, if there is one
 abbrev pub topology_if : Option Request → Option ℕ
 topology_if None = None
 topology_if (Some request) = request.topology
@@ -134,31 +134,31 @@ topology_if (Some request) = request.topology
 abbrev pub topology_in : List (List ℕ) → Option ℕ
 topology_in ws = topology_if (request_of ws)
 
--- ---- what a piece is
+-- ---- the pieces
 
--- by what it is of, and the members of the reach of its master, where there is one
+-- the text or bytes of a piece, from its subject, and the members of the reach of its master, if it has one
 abbrev pub piece_text : Piece → Subject → List Member → List ℕ
 piece_text Reach subject members = reach_text members
 piece_text ObjectText subject members = text_of subject.object
 piece_text ObjectBytes subject members = little_endian (words_of subject.object)
 piece_text TopologyText subject members = table_of subject.topology
 
--- what is done for the master of a subject
+-- the subject has a master of which this holds
 abbrev pub ForMaster : Subject → (NodeId → Type 0) → Type 0
 ForMaster subject Does = (master : NodeId) × (subject.master ≡ Some master) × Does master
 
--- a text is that piece of a subject
+-- a text is this piece of a subject
 abbrev pub IsPiece : Piece → Subject → List ℕ → Type 0
 IsPiece Reach subject text = ForMaster subject (λ master. IsReachText subject.object subject.topology master text)
 IsPiece ObjectText subject text = text ≡ text_of subject.object
 IsPiece ObjectBytes subject text = Reads text subject.object
 IsPiece TopologyText subject text = IsTopologyText subject.topology text
 
--- ---- what Done means where a piece is written
+-- ---- the promises of Done for a piece
 
 module _ {I O : Type 0} (i : Inputs.Ghosts I) (o : Sink.Ghosts O) where
-  -- an object was held under the first name, the second one names a master of it, and the text of what that master can
-  -- reach was written: on the chip, or on the topology of the text that was held under a third name
+  -- an object was held under the first name, and the second word names a master of it. The text is the reach of that
+  -- master, on the chip, or on the topology whose text was held under a third name
   pub record IsReached (named : Option ℕ) (ws : List (List ℕ)) (inputs : I) (old new : O) : Type 0 where
     pub bytes : List ℕ
     pub object : Object
@@ -180,7 +180,7 @@ module _ {I O : Type 0} (i : Inputs.Ghosts I) (o : Sink.Ghosts O) where
     pub reads : Reads bytes object
     pub text : (o.state new).bytes ≡ (o.state old).bytes ++ text_of object
 
-  -- the text of an object was held under the name, and the object's bytes were written, which are read again
+  -- the text of an object was held under the name. The object's bytes were written, and reading them gives it again
   pub record IsBuilt (ws : List (List ℕ)) (inputs : I) (old new : O) : Type 0 where
     pub bytes : List ℕ
     pub object : Object
@@ -190,7 +190,7 @@ module _ {I O : Type 0} (i : Inputs.Ghosts I) (o : Sink.Ghosts O) where
     pub reads : Reads (little_endian (words_of object)) object
 
 module _ {O : Type 0} (o : Sink.Ghosts O) where
-  -- the text of the chip's topology was written, which means that topology
+  -- the text of the chip's topology was written, and reading it gives that topology again
   pub record IsTabled (old new : O) : Type 0 where
     pub text : (o.state new).bytes ≡ (o.state old).bytes ++ table_of chip
     pub means : meaning (table_of chip) ≡ Ok chip

@@ -1,4 +1,4 @@
--- The texts that a form reads under the names of its words: that a source holds them, and that its calls gave them.
+-- The texts that a form reads, by the names in its words: a source holds them, or its calls gave them.
 use Rattle.std.specs.Prelude.{◌≡◌, ℕ, List, [], ◌∷◌, ◌++◌, Option, Some, None, Ok}
 use Rattle.std.specs.List.{AllByRecursion as Each}
 use Rattle.pm_io.specs.declared.prefix.StopReason.TheVariants.{End}
@@ -11,7 +11,7 @@ use Rattle.pm_topofile.specs.Meaning.{meaning}
 use Rattle.pm_top.specs.Asked.{topology_limit}
 use Rattle.pm_top.specs.Words.{word}
 
--- a name, with the most bytes that are taken of it, and its bytes
+-- a text: a name, the most bytes that are read of it, and its bytes
 pub record Text : Type 0 where
   pub named : Named
   pub bytes : List ℕ
@@ -19,8 +19,8 @@ pub record Text : Type 0 where
 abbrev pub text : List ℕ → ℕ → List ℕ → Text
 text name limit bytes = record { named = named name limit; bytes = bytes }
 
--- the texts that are read for a topology: where a word names it, the one under that word, which means it; else none, and the topology is
--- the chip's
+-- the texts that are read for a topology: the one that the word at this place names, which says it; without a place
+-- none, and the topology is the chip's
 abbrev pub IsTopologyOf : Option ℕ → List (List ℕ) → List Text → Topology → Type 0
 IsTopologyOf None ws texts topology = (texts ≡ []) × (topology ≡ chip)
 IsTopologyOf (Some k) ws texts topology =
@@ -30,12 +30,12 @@ IsTopologyOf (Some k) ws texts topology =
 abbrev pub HoldsEach : Moment → List Text → Type 0
 HoldsEach m texts = Each (λ (it : Text). Holds m it.named.name it.bytes) texts
 
--- these calls begin the name of a text and read it to its end, and they gave its bytes
+-- these calls open the name of a text, read it to its end, and give its bytes
 pub record Gave (it : Text) (calls : List Call) : Type 0 where
   pub reads : ReadsWhole it.named calls
   pub is : prefix_called it.named.limit calls ≡ record { bytes = it.bytes; stop = End }
 
--- so of each of these texts in turn, and these are all calls
+-- these are all calls, and they give each of these texts in turn
 abbrev pub GaveEach : List Call → List Text → Type 0
 GaveEach calls [] = calls ≡ []
 GaveEach calls (it ∷ texts) = (one : List Call) × (next : List Call) × (calls ≡ one ++ next) × Gave it one × GaveEach next texts

@@ -38,20 +38,20 @@ use Rattle.pm_top.specs.Words.{word}
 
 -- ---- a run, in which no device fails
 
--- the run of a script over an object and a topology, line by line. No device occurs in it
+-- the run of a script over an object and a topology, line by line, without a device
 abbrev pub run_over : Object → Topology → List Event → List Line
 run_over object topology events = run (setup_for object topology events) (passed events)
 
--- the lines of its text over a device that never fails
+-- the output lines of that run over a device that never fails
 abbrev pub lines_over : Object → Topology → Standing → List Event → List (List Word)
 lines_over object topology board events = run_lines (setup_for object topology events) board [] (passed events)
 
--- those about a unit: of the commands on it, and its closing line
+-- the lines among these about a unit: of the commands on it, and its closing line
 abbrev pub lines_about : Unit → List (List Word) → List (List Word)
 lines_about unit lines = filter (is_about unit) lines
 
--- a master of the object, and a slave beyond the ends of all paths from it: none of the masters to which a path leads brings the
--- slave in, by what any object of the run permits
+-- a master of the object, and a slave beyond the ends of all paths from it: no master to which a path leads brings
+-- the slave in, by the permissions of any object of the run
 pub record IsBeyondPaths (object : Object) (topology : Topology) (events : List Event) (m slave : NodeId) : Type 0 where
   pub from : ℕ
   pub place : ℕ
@@ -64,40 +64,42 @@ pub record IsBeyondPaths (object : Object) (topology : Topology) (events : List 
 -- ---- the headline
 
 module _ {O D : Type 0} (o : Sink.Ghosts O) (d : Device.Ghosts D) where
-  -- while no command of the device fails
+  -- the promises while no command of the device fails
   pub record IsUnfailing (object : Object) (topology : Topology) (board : Standing) (events : List Event) (sink sink' : O) (device : D) : Type 0 where
-    -- what was written is the text of the run over a device that never fails, line by line
+    -- the text is that of the run over a device that never fails, line by line
     pub text : (o.state sink').bytes ≡ (o.state sink).bytes ++ script_text object topology board [] events
     pub lines : script_text object topology board [] events ≡ concat (map line_text (lines_over object topology board events))
-    -- each value that the device shows is that of the last book: each slave is in the first of its states that meets all
-    -- requirements in force, and each power domain is up exactly if it is held or something directly below it needs power
+    -- the values that the device shows are those of the last book: each slave is in the first of its states that
+    -- meets all requirements in force, and each power domain is up exactly if it is held or something directly below
+    -- it needs power
     pub follows : d.values_observable → Follows
         (last_book (load_of object (attached_by events) topology) (script_driven object topology [] events)) (d.state device)
-    -- of each slave beyond the ends of all paths from a master, the lines are those of the run without the master's messages
+    -- the lines about a slave beyond the ends of all paths from a master are those of the run without the master's
+    -- messages
     pub apart : (other : Standing) (m slave : NodeId) → IsBeyondPaths object topology events m slave
         → lines_about (Node slave) (lines_over object topology board events)
         ≡ lines_about (Node slave) (lines_over object topology other (quiet m events))
 
-  -- what a run of a script came to that was written under the device's answers
+  -- the promises of a run of a script that was written under the device's answers
   pub record IsHeadline (object : Object) (topology : Topology) (board : Standing) (events : List Event) (sink sink' : O) (start device : D) : Type 0 where
     pub answers : List (List Bool)
     -- the device was driven through the run
     pub drove : Drove d (setup_for object topology events) (script_driven object topology answers events) start device
     pub unfailing : NoFailure d topology (script_driven object topology [] events) start device
         → IsUnfailing object topology board events sink sink' device
-    -- whatever fails, each message gets the answer of the checks of its call, or of a module; success alone is replaced, by an
-    -- internal error, exactly if the device didn't follow the step
+    -- whatever fails, each message gets the answer of the checks of its call, or of a module. Only a success is
+    -- replaced, by an internal error, exactly if the device didn't follow the step
     pub text : (o.state sink').bytes ≡ (o.state sink).bytes ++ script_text object topology board answers events
     pub causes : HaveCauses (cores_in (run_over object topology events))
     pub told : AreTold (script_driven object topology answers events)
-    -- whatever fails, each slave beyond the ends of all paths from a master goes through the transitions, in the core's book, of
-    -- the run without the master's messages
+    -- whatever fails, each slave beyond the ends of all paths from a master goes, in the core's book, through the
+    -- transitions of the run without the master's messages
     pub apart : (m slave : NodeId) → IsBeyondPaths object topology events m slave
         → transitions (Node slave) (run_over object topology events) ≡ transitions (Node slave) (run_over object topology (quiet m events))
 
--- These texts were read of the names: the first one spells an object and the last one a script, and the one between them, if a word
--- names it, means a topology. The headline holds of the run of that script over that object and that topology, to which the device was
--- fitted before if a word names it.
+-- The texts of the names in the words: the first is an object's bytes and the last a script; one between them, if a
+-- word names it, says a topology. The headline holds for the run of that script over that object and that topology.
+-- The device was fitted to the topology before, if a word names it.
 pub record Headline {O D : Type 0} (o : Sink.Ghosts O) (d : Device.Ghosts D) (AreRead : List Text → Type 0) (named : Option ℕ)
     (ws : List (List ℕ)) (board : Standing) (sink sink' : O) (device device' : D) : Type 0 where
   pub object_bytes : List ℕ

@@ -1,5 +1,5 @@
--- What a form has to do: what it asks for, what the master can reach, and the events of a script that is made; or the fault that
--- refuses it.
+-- The job of a form: all that it asks for, the members of the master's reach, and the events of a generated script;
+-- or the fault that refuses it.
 use Rattle.std.specs.Prelude.{◌≡◌, ℕ, ◌⊎◌, is_some, List, IfNone, IfSome, IsSome, Result, Ok, Err, ⊤}
 use Rattle.pm_base.specs.Faults.{Rose}
 use Rattle.pm_base.specs.declared.errors.Exit.{Exit}
@@ -21,27 +21,27 @@ use Rattle.pm_top.specs.declared.works.Form.{Form}
 use Rattle.pm_top.specs.declared.works.Source.TheVariants as source
 use Rattle.pm_top.specs.Asked.{Asked, Begins, asked_of, no_script}
 
--- what is asked for, the members of the reach of its master, where there is one, and the events of a script that is made
+-- all that is asked for, the members of the reach of its master, if it has one, and the events of a generated script
 pub record Job : Type 0 where
   pub asked : Asked
   pub members : List Member
   pub events : List Event
 
--- what the master of a subject can reach on its topology, where it has one: by the loaded object, and by each one that the first
--- lines of a script attach which can be put in force
+-- the reach of the subject's master on its topology, if it has one: by the loaded object, and each object that the
+-- first lines of a script attach and that can be put in force
 abbrev pub IsFound : Asked → List Member → Type 0
 IsFound asked members =
     IfSome asked.subject.master
     (λ master. IsReach (objects_in asked.subject.object (attached_by asked.script.events)) asked.subject.topology master members)
 
--- a job does what is asked for, or is refused for the same fault
+-- a job does all that is asked for, or both are refused for the same fault
 abbrev pub Meets : Result Job Fault → Result Asked Fault → Type 0
 Meets (Ok job) (Ok asked) = (job.asked ≡ asked) × IsFound job.asked job.members
 Meets (Ok job) (Err due) = ⊥
 Meets (Err fault) (Ok asked) = ⊥
 Meets (Err fault) (Err due) = fault ≡ due
 
--- a job of the words. Where fewer inputs can be begun than are named, a source may begin a later one or not
+-- a job of the words; if fewer inputs can be opened than are named, a source may open a later one or not
 abbrev pub IsJobOf : Form → List (List ℕ) → Moment → Result Job Fault → Type 0
 IsJobOf f ws m job = (again : Begins m) × Meets job (asked_of f ws m again)
 
@@ -59,9 +59,9 @@ IsFaultOf f Usage = ⊥
 IsFaultOf f (Line n cause) = ⊥
 IsFaultOf f Size = ⊥
 
--- a job is one of the form: its topology keeps all rules, and is the chip's where no word names one; it has a master where a word
--- names one, whose reach is over that topology and the objects of the run, a script where a word names one, and the events of the lines that are made where
--- a word is their number
+-- a job of the form. Its topology keeps all rules, and is the chip's if no word names one. It has a master if a word
+-- names one, whose reach is over that topology and the objects of the run; a script if a word names one; and the
+-- events of the generated lines if a word is their number
 pub record IsOf (f : Form) (job : Job) : Type 0 where
   pub supported : IsSupported job.asked.subject.topology
   pub built_in : IfNone f.topology (job.asked.subject.topology ≡ chip)
@@ -70,13 +70,14 @@ pub record IsOf (f : Form) (job : Job) : Type 0 where
   pub unread : IfNone f.script (job.asked.script ≡ no_script)
   pub made : f.source ≡ source.Number → IsScript (made job.asked.subject.lines) job.events
 
--- and a refusal is one of the form's
+-- a job of the form, or a fault of the form
 abbrev pub IsKnown : Form → Result Job Fault → Type 0
 IsKnown f (Ok job) = IsOf f job
 IsKnown f (Err fault) = IsFaultOf f fault
 
 module _ {I : Type 0} (i : Inputs.Ghosts I) where
-  -- the job is what the words ask for, by what the inputs show, unless memory is wanted. On ReadFault the inputs' count rose
+  -- the job is what the words ask for, by what the inputs show, unless memory runs out; on ReadFault the inputs'
+  -- count rose
   pub record IsAsked (f : Form) (ws : List (List ℕ)) (old new : I) (exit : Exit) (job : Result Job Fault) : Type 0 where
     pub shown : i.observable → (job ≡ Err Memory) ⊎ IsJobOf f ws (i.state old) job
     pub failed : exit ≡ ReadFault → Rose (i.state old).faults (i.state new).faults

@@ -1,4 +1,4 @@
--- A script that is made, the run of it, and the summary of that.
+-- A generated script, its run, and the summary of that.
 use Rattle.std.specs.Prelude.{◌≡◌, ◌⊎◌, ℕ, Bool, List, Option}
 use Rattle.pm_base.specs.declared.errors.Exit.{Exit}
 use Rattle.pm_base.specs.declared.events.Event.{Event}
@@ -20,7 +20,8 @@ use Rattle.pm_drive.specs.Scripts.{script_driven, script_text}
 use Rattle.pm_top.specs.Within.{one_piece}
 
 module _ {D : Type 0} (d : Device.Ghosts D) where
-  -- the device was driven through the script of so many lines, or through lines from its front, and the tasks are left so
+  -- the device was driven through the generated script of so many lines, or through its first lines, and the tasks
+  -- are left so
   pub record WasDriven (object : Object) (t : Topology) (board is : Standing) (n : ℕ) (old new : D) : Type 0 where
     pub events : List Event
     pub answers : List (List Bool)
@@ -29,12 +30,12 @@ module _ {D : Type 0} (d : Device.Ghosts D) where
     pub drove : Drove d (setup_for object t events) (until cut (script_driven object t answers events)) old new
     pub tasks_left : is ≡ last_board board (until cut (script_driven object t answers events))
 
-  -- nothing was done to the device and to the tasks, or it was driven so
+  -- nothing was done to the device and to the tasks, or they were driven so
   abbrev pub MayBeDriven : Object → Topology → Standing → Standing → ℕ → D → D → Type 0
   MayBeDriven object t board is n old new = ((old ≡ new) × (board ≡ is)) ⊎ WasDriven object t board is n old new
 
-  -- a text is the summary of the run of the script of so many lines, and the device was driven through that run, which leaves the
-  -- tasks so
+  -- a text is the summary of the run of the generated script of so many lines, and the device was driven through that
+  -- run, which leaves the tasks so
   pub record IsSummary (object : Object) (t : Topology) (board is : Standing) (n : ℕ) (old new : D) (text : List ℕ) : Type 0 where
     pub events : List Event
     pub answers : List (List Bool)
@@ -50,7 +51,7 @@ module _ {O D : Type 0} (o : Sink.Ghosts O) (d : Device.Ghosts D) where
     pub made : IsSummary d object t board is n old new text
     pub reports : Reports o (one_piece text) sink sink' exit
 
-  -- memory is wanted, which can come late
+  -- memory ran out, perhaps late
   pub record Starves (object : Object) (t : Topology) (board is : Standing) (n : ℕ) (sink sink' : O) (old new : D) (exit : Exit) : Type 0 where
     pub reports : Reports o (refusal Memory) sink sink' exit
     pub device : MayBeDriven d object t board is n old new

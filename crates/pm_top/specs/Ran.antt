@@ -1,4 +1,4 @@
--- What a run of the program did, on every exit, and what each exit means.
+-- The effects of the program on every exit, and the promises of each exit.
 use Rattle.std.specs.Prelude.{◌≡◌, ℕ, ◌+◌, ◌<◌, ◌⊎◌, Bool, List, [], length, Option, Some, None, Result, Ok, Err, ⊤}
 use Rattle.pm_base.specs.declared.errors.Exit.{Exit}
 use Rattle.pm_base.specs.declared.errors.Exit.TheVariants as exit
@@ -41,9 +41,9 @@ use Rattle.pm_top.specs.Job.{IsAsked, Job}
 use Rattle.pm_top.specs.Done.{report}
 use Rattle.pm_top.specs.Making.{WasDriven}
 
--- ---- what was done
+-- ---- the effects
 
--- a work drives the device through the lines that it writes, through a whole run before it writes, or not at all
+-- a work drives the device through the lines as it writes them, through a whole run before it writes, or not at all
 pub data Drives : Type 0 where
   AsItWrites : Drives
   BeforeItWrites : Drives
@@ -55,15 +55,16 @@ drives Make = BeforeItWrites
 drives work = Never
 
 module _ {D : Type 0} (d : Device.Ghosts D) where
-  -- a device was fitted if a word names a topology, and then driven through the steps of a script up to the cut; and so the tasks
+  -- the device was fitted if a word names a topology, and then driven through the steps of a script up to the cut;
+  -- and so were the tasks
   pub record FitsAndDrives (named : Option ℕ) (board is : Standing) (job : Job) (answers : List (List Bool)) (cut : Option ℕ) (old new : D) : Type 0 where
     pub start : D
     pub fitted : IsFitted d named job.asked.subject.topology old start
     pub touched : Touched d job.asked.subject.object job.asked.subject.topology board is start new (Ok job.asked.script) answers cut
 
-  -- what is done to the device and to the tasks under these answers, up to the cut: it is driven through the steps of the script, after it was
-  -- fitted if a word names a topology; or through all those of a script of so many lines that is made, or some of them where
-  -- memory is wanted; or nothing touches it. The tasks are left as those lines leave them
+  -- the effects on the device and the tasks under these answers, up to the cut. The device is driven through the
+  -- steps of the script, after a fit if a word names a topology; or through a generated script, or a first part of it
+  -- if memory runs out; or not at all. The tasks are left as those lines leave them
   abbrev pub TouchesBy : Drives → Option ℕ → Standing → Standing → (Topology → Type 0) → ℕ → D → D → Result Job Fault → List (List Bool) → Option ℕ → Type 0
   TouchesBy AsItWrites named board is Named n old new (Ok job) answers cut = FitsAndDrives named board is job answers cut old new
   TouchesBy AsItWrites named board is Named n old new (Err fault) answers cut = LeftBy d fault named Named old new × (board ≡ is)
@@ -75,7 +76,7 @@ module _ {D : Type 0} (d : Device.Ghosts D) where
       ((old ≡ new) × (board ≡ is)) ⊎ ((fault ≡ Memory) × WasDriven d laboratory chip board is n old new)
   TouchesBy Never named board is Named n old new job answers cut = (old ≡ new) × (board ≡ is)
 
-  -- the same by the work of a form, and the number of lines and the topology that its words ask for
+  -- these effects by the work of a form, and by the number of lines and the topology that its words ask for
   abbrev pub Touches : Form → List (List ℕ) → Standing → Standing → (Topology → Type 0) → D → D → Result Job Fault → List (List Bool) → Option ℕ → Type 0
   Touches f ws board is Named old new job answers cut =
       TouchesBy (drives f.work) f.topology board is Named (lines_by f.source (word 1 ws)) old new job answers cut
@@ -89,7 +90,7 @@ module _ {I O D : Type 0} (i : Inputs.Ghosts I) (o : Sink.Ghosts O) (d : Device.
   abbrev pub IsShown : Form → List (List ℕ) → World I O D → Topology → Type 0
   IsShown f ws w topology = i.observable → HoldsTopology f.topology ws (i.state w.inputs) topology
 
-  -- what was asked for, what was written of it, and what was done to the device and to the tasks
+  -- what was asked for, how much of it was written, and what was done to the device and to the tasks, by the form
   abbrev pub RanForm : Option Form → List (List ℕ) → Standing → Standing → World I O D → World I O D → Exit → Type 0
   RanForm None ws board is w w' result =
       Did o (λ job. job ≡ Err Usage) nothing_to_do (λ job answers cut. (w.device ≡ w'.device) × (board ≡ is)) w.sink w'.sink result
@@ -97,13 +98,13 @@ module _ {I O D : Type 0} (i : Inputs.Ghosts I) (o : Sink.Ghosts O) (d : Device.
       Did o (IsAsked i f ws w.inputs w'.inputs result) (report board f.work) (Touches d f ws board is (IsShown f ws w) w.device w'.device)
       w.sink w'.sink result
 
-  -- the same by the words
+  -- so by the words
   abbrev pub Ran : List (List ℕ) → Standing → Standing → World I O D → World I O D → Exit → Type 0
   Ran ws board is w w' result = RanForm (form ws) ws board is w w' result
 
 module _ {D : Type 0} (d : Device.Ghosts D) where
-  -- the device was driven through the whole run of a script over an object and a topology that keeps all rules: the chip's, or, if
-  -- a word names one, that to which it was fitted before
+  -- the device was driven through the whole run of a script over an object and a topology that keeps all rules: the
+  -- chip's, or, if a word names one, the one to which it was fitted before
   pub record DroveRun (named : Option ℕ) (old new : D) : Type 0 where
     pub object : Object
     pub topology : Topology
@@ -114,57 +115,61 @@ module _ {D : Type 0} (d : Device.Ghosts D) where
     pub fitted : IsFitted d named topology old start
     pub drove : Drove d (setup_for object topology events) (script_driven object topology answers events) start new
 
--- ---- what is known of each run
+-- ---- the laws of each run
 
--- over whichever object and topology, and from whichever device that the run was begun at: nothing that a master sends changes
--- what is beyond its reach
+-- in a run of any object and topology, from whichever state of the device: nothing that a master sends changes what
+-- is beyond its reach
 abbrev pub EachKeepsApart : {D : Type 0} → Device.Ghosts D → D → Type 0
 EachKeepsApart {D} d new =
     (object : Object) (topology : Topology) (start : D)
     → IsObject object → IsWellFormed topology → RunsKeepApart d object topology start new
 
--- over whichever object and topology: each answer has its causes in the book before its step
+-- in a run of any object and topology: each answer has its causes in the book before its step
 abbrev pub EachHasCauses : Type 0
 EachHasCauses = (object : Object) (topology : Topology) → AnswersHaveCauses object topology
 
--- over whichever object and topology: each line that serves sends the messages in all boxes, and leaves them empty
+-- in a run of any object and topology: each line that serves the boxes sends all their messages, and leaves them
+-- empty
 abbrev pub EachEmptiesBoxes : Type 0
 EachEmptiesBoxes = (object : Object) (topology : Topology) → IsObject object → LinesServe object topology
 
--- over whichever object and topology: the line of a power call is the run of the events that it is lowered to, and so is a script
+-- in a run of any object and topology: the line of a power call is the run of the events that it becomes; and so it
+-- is for a script
 abbrev pub EachLowersCalls : Type 0
 EachLowersCalls = (object : Object) (topology : Topology) → LowersCalls object topology
 
--- over whichever object and topology, of the modules and the tasks that a run begins with: each line tells exactly the calls of
--- tasks that are due in it, and a task that is stored before and after was called as often as lines tell it
+-- in a run of any object and topology, with these modules and tasks at first: each line tells exactly the calls of
+-- tasks that are due in it, and a task that is stored before and after was called as often as the lines tell
 abbrev pub EachTellsCalls : Standing → Type 0
 EachTellsCalls board = (object : Object) (topology : Topology) → TellsCalls object topology board
 
--- over whichever object and topology: at the load and after each core step the clocks follow the book, and each runs exactly where it is a
--- root whose slave is in a state other than 0, or a master enables it and the parent that is chosen for it runs
+-- in a run of any object and topology: at the load and after each core step the clocks follow the book. A root runs
+-- exactly if its slave is in a state other than 0; any other clock runs exactly if a master enables it and its
+-- selected parent runs
 abbrev pub EachFollowsClocks : Type 0
 EachFollowsClocks = (object : Object) (topology : Topology) → ClocksFollow object topology
 
--- ---- what the exits mean
+-- ---- the promises of the exits
 
 -- the exit of what is asked for: that of the fault that refuses it, or at which its script stops, or Done
 abbrev pub job_exit : Result Asked Fault → Exit
 job_exit (Ok asked) = exit_after (fault_at (1 + length asked.script.events) asked.script.stop)
 job_exit (Err fault) = exit_after (Some fault)
 
--- the exit is that of what the words ask for, unless memory is wanted or the sink fails
+-- the exit is that of what the words ask for, unless memory runs out or the sink fails
 module _ {O : Type 0} (o : Sink.Ghosts O) where
-  -- the exit of a form; words without one end in Usage
+  -- the exit of a form; words without a form end with Usage
   abbrev pub FormDecides : Option Form → List (List ℕ) → Moment → O → O → Exit → Type 0
   FormDecides None ws m old new result = result ≡ exit.Usage
   FormDecides (Some f) ws m old new result =
       (again : Begins m) × EndsWith o (job_exit (asked_of f ws m again)) old new result
 
-  -- the same by the words
+  -- the exit of the words
   abbrev pub Decides : List (List ℕ) → Moment → O → O → Exit → Type 0
   Decides ws m old new result = FormDecides (form ws) ws m old new result
 
--- want of memory comes before anything is done to the device, unless the run is kept in memory, or the device is fitted first
+-- memory runs out before anything is done to the device, unless the run is kept in memory, or the device is fitted
+-- first
 abbrev pub StarvesBefore : Drives → Option ℕ → Type 0
 StarvesBefore AsItWrites named = named ≡ None
 StarvesBefore BeforeItWrites named = ⊥
@@ -179,20 +184,20 @@ abbrev pub IsBeforeRun : Option Form → Exit → Type 0
 IsBeforeRun f result =
     (result ≡ exit.Usage) ⊎ ((result ≡ exit.BadObject) ⊎ ((result ≡ exit.BadText) ⊎ ((result ≡ exit.Memory) × StarvesFirst f)))
 
--- by what the inputs show, the name at a place, where there is one, can't be begun as the input of this number, or has a failing byte
--- within this limit
+-- the inputs show that the name at a place, if there is one, can't be opened as the input of this number, or has a
+-- failing byte within this limit
 abbrev pub LaterMayFail : ℕ → ℕ → Option ℕ → List (List ℕ) → Moment → Type 0
 LaterMayFail turn limit None ws m = ⊥
 LaterMayFail turn limit (Some k) ws m = (m.room < turn) ⊎ MayFail (word k ws) limit m
 
--- a first name can't be begun or has a failing byte within its limit; of a number nothing is read
+-- the first name can't be opened or has a failing byte within its limit; for a number nothing is read
 abbrev pub SourceMayFail : Source → List ℕ → Moment → Type 0
 SourceMayFail source.Object name m = MayFail name object_limit m
 SourceMayFail source.Text name m = MayFail name text_limit m
 SourceMayFail source.Number name m = ⊥
 SourceMayFail source.Nothing name m = ⊥
 
--- one that the words name can't be begun or has a failing byte within its limit
+-- one of the names in the words can't be opened or has a failing byte within its limit
 abbrev pub FormMayFail : Option Form → List (List ℕ) → Moment → Type 0
 FormMayFail None ws m = ⊥
 FormMayFail (Some f) ws m =

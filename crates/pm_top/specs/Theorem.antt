@@ -1,4 +1,4 @@
--- The headline: what Done means for the words `replay OBJ SCRIPT` and `replay OBJ SCRIPT TOPO`.
+-- The headline: the promises of Done for the words `replay OBJ SCRIPT` and `replay OBJ SCRIPT TOPO`.
 use Rattle.std.specs.Prelude.{◌≡◌, ℕ, Bool, List, [], ◌∷◌, ◌++◌, Option}
 use Rattle.pm_base.specs.declared.events.Event.{Event}
 use Rattle.pm_io.specs.declared.inputs.Inputs as Inputs
@@ -21,11 +21,11 @@ use Rattle.pm_top.specs.Fit.{IsFitted}
 use Rattle.pm_top.specs.Given.{HoldsEach, IsTopologyOf, Text, text}
 use Rattle.pm_top.specs.Words.{word}
 
--- These texts were read of two names: an object and a script; and of a third, where it is named, the text of a topology. Else that is
--- the chip's. The topology keeps all rules. The whole text of the run of the script over the object and that topology, with what the
--- script's first lines attach, was written, under the device's answers, with what the modules say and the calls of the tasks that are
--- due, and the device was driven through that run; where the topology is named it was fitted to it before. The tasks are left as the
--- run leaves them.
+-- Two names gave these texts: an object and a script. A third, if a word names it, gave the text of a topology, which
+-- keeps all rules; else the topology is the chip's. The whole text of the run of the script over the object and that
+-- topology, with the objects that the script's first lines attach, was written, under the device's answers, with the
+-- responses of modules and the calls of due tasks. The device was driven through that run, after a fit if a word
+-- names the topology. The tasks are left as the run leaves them.
 pub record IsReplayedBy {O D : Type 0} (o : Sink.Ghosts O) (d : Device.Ghosts D) (AreRead : List Text → Type 0) (named : Option ℕ)
     (ws : List (List ℕ)) (board is : Standing) (sink sink' : O) (device device' : D) : Type 0 where
   pub object_bytes : List ℕ
@@ -46,7 +46,7 @@ pub record IsReplayedBy {O D : Type 0} (o : Sink.Ghosts O) (d : Device.Ghosts D)
   pub drove : Drove d (setup_for object topology events) (script_driven object topology answers events) start device'
   pub tasks_left : is ≡ last_board board (script_driven object topology answers events)
 
--- so of the texts that the inputs held
+-- so for the texts that the inputs held
 abbrev pub IsReplayed : {I O D : Type 0} → Inputs.Ghosts I → Sink.Ghosts O → Device.Ghosts D → Option ℕ → List (List ℕ) → Standing → Standing → World I O D → World I O D → Type 0
 IsReplayed i o d named ws board is w w' =
     IsReplayedBy o d (HoldsEach (i.state w.inputs)) named ws board is w.sink w'.sink w.device w'.device

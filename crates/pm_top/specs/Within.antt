@@ -1,4 +1,4 @@
--- What the parts of a run do. No user of this crate speaks of these words.
+-- The effects of the parts of a run. No user of this crate speaks of these words.
 use Rattle.std.specs.Prelude.{◌≡◌, ◌⊎◌, ◌==◌, ◌≤◌, ℕ, List, [], ◌∷◌, Option, Some, None, Result, Ok, Err, IfOk, IfSome, IsTrue, ⊤}
 use Rattle.std.specs.List.{list_any}
 use Rattle.pm_base.specs.declared.errors.Exit.{Exit}
@@ -30,28 +30,28 @@ use Rattle.pm_top.specs.Words.{word}
 use Rattle.pm_top.specs.declared.works.Source.TheVariants as source
 use Rattle.pm_top.specs.Asked.{Says, itself, line_limit, lines_by, object_by, object_limit, subject_of, text_limit, topology_limit, topology_of, with_topology}
 
--- ---- what is read
+-- ---- reading
 
--- a name came to this: it was read within the limit of its kind, or is a number itself
+-- a name gave this prefix: it was read within the limit of its kind, or is a number itself
 abbrev pub Takes : Source → Type 0 → List ℕ → Moment → Moment → Prefix → Type 0
 Takes source.Object shown name before after prefix = ReadsPrefix shown name object_limit before after prefix
 Takes source.Text shown name before after prefix = ReadsPrefix shown name text_limit before after prefix
 Takes source.Number shown name before after prefix = (prefix ≡ itself name) × (before ≡ after)
 Takes source.Nothing shown name before after prefix = (prefix ≡ itself name) × (before ≡ after)
 
--- by the calls a name was read so, up to one byte past a limit, and what was read of it is what they gave
+-- the calls read a name up to one byte past a limit, and gave this prefix of it
 pub record GivenOf (name : List ℕ) (limit : ℕ) (before after : Moment) (prefix : Prefix) : Type 0 where
   pub calls : Meanwhile before after (NameReadBy prefix.stop (named name limit))
   pub given : Meanwhile before after (NameGiven limit prefix)
 
--- so of what a name is
+-- so by the kind of the name
 abbrev pub GivenFor : Source → List ℕ → Moment → Moment → Prefix → Type 0
 GivenFor source.Object name before after prefix = GivenOf name object_limit before after prefix
 GivenFor source.Text name before after prefix = GivenOf name text_limit before after prefix
 GivenFor source.Number name before after prefix = ⊤
 GivenFor source.Nothing name before after prefix = ⊤
 
--- a name was taken, and gives this object or fault
+-- a name was read, and gives this object or fault
 pub record ReadsAs (source : Source) (shown : Type 0) (name : List ℕ) (before after : Moment) (result : Result Object Fault) : Type 0 where
   pub prefix : Prefix
   pub read : Takes source shown name before after prefix
@@ -59,14 +59,14 @@ pub record ReadsAs (source : Source) (shown : Type 0) (name : List ℕ) (before 
   pub is : object_by source prefix ≡ result
   pub says : IfOk result (Says source prefix.bytes)
 
--- the text of a topology was read within its limit under a name
+-- the text of a topology was read under a name, within its limit, and gives this topology or fault
 pub record ReadsText (shown : Type 0) (name : List ℕ) (before after : Moment) (result : Result Topology Fault) : Type 0 where
   pub prefix : Prefix
   pub read : ReadsPrefix shown name topology_limit before after prefix
   pub given : GivenOf name topology_limit before after prefix
   pub is : topology_of prefix ≡ result
 
--- the same under the word at a place; without such a word the topology is the chip's, and nothing is read
+-- so under the word at a place; without a place the topology is the chip's, and nothing is read
 abbrev pub ReadsTopology : Type 0 → Option ℕ → List (List ℕ) → Moment → Moment → Result Topology Fault → Type 0
 ReadsTopology shown None ws before after result = (result ≡ Ok chip) × (before ≡ after)
 ReadsTopology shown (Some k) ws before after result = ReadsText shown (word k ws) before after result
@@ -78,12 +78,12 @@ pub record ReadsRest (shown : Type 0) (f : Form) (ws : List (List ℕ)) (object 
   pub is : with_topology object topology (lines_by f.source (word 1 ws)) f.node ws ≡ result
   pub supported : IfOk result (λ subject. IsSupported subject.topology)
 
--- what follows the object: nothing where it was refused
+-- the topology was read after the object; if the object was refused nothing was
 abbrev pub ReadsThen : Type 0 → Form → List (List ℕ) → Moment → Moment → Result Object Fault → Result Topology Fault → Type 0
 ReadsThen shown f ws before after (Ok object) topology = ReadsTopology shown f.topology ws before after topology
 ReadsThen shown f ws before after (Err fault) topology = before ≡ after
 
--- the first name of a form was taken, then its topology, and then the word that names a master
+-- the first name of a form was read, then its topology, and then the word that names a master
 pub record ReadsSubject (shown : Type 0) (f : Form) (ws : List (List ℕ)) (before after : Moment) (result : Result Subject Fault) : Type 0 where
   pub prefix : Prefix
   pub between : Moment
@@ -95,31 +95,32 @@ pub record ReadsSubject (shown : Type 0) (f : Form) (ws : List (List ℕ)) (befo
   pub says : IfOk result (λ subject. Says f.source prefix.bytes subject.object)
   pub supported : IfOk result (λ subject. IsSupported subject.topology)
 
--- the master is one of the object
+-- the master of the subject, if it has one, is one of its object
 abbrev pub IsNamed : Subject → Type 0
 IsNamed subject = IfSome subject.master (λ master. IsTrue (list_any (λ (r : MasterRec). r.node == master.0) subject.object.masters))
 
--- and the object is well formed, the topology keeps all rules, and a script that is made isn't too long
+-- the object is well formed, the topology keeps all rules, the master is one of the object, and a generated script
+-- isn't too long
 pub record IsSubject (subject : Subject) : Type 0 where
   pub object : IsObject subject.object
   pub topology : IsSupported subject.topology
   pub named : IsNamed subject
   pub few : subject.lines ≤ line_limit
 
--- ---- what is written
+-- ---- writing
 
--- a text of one piece
+-- a report of one piece
 abbrev pub one_piece : List ℕ → Report
 one_piece text = record { body = text ∷ []; fault = None }
 
 module _ {O : Type 0} (o : Sink.Ghosts O) where
-  -- a text of which this holds was written
+  -- such a text was written
   pub record WritesOne (Holds : List ℕ → Type 0) (old new : O) (exit : Exit) : Type 0 where
     pub text : List ℕ
     pub holds : Holds text
     pub reports : Reports o (one_piece text) old new exit
 
-  -- the same, or memory is wanted
+  -- so, or memory ran out
   abbrev pub Writes : (List ℕ → Type 0) → O → O → Exit → Type 0
   Writes Holds old new exit = Reports o (refusal Memory) old new exit ⊎ WritesOne Holds old new exit
 

@@ -1,6 +1,6 @@
-//! The top call of the program: a script is run over a configuration object, the reach of a master is
-//! written, two runs are compared, an object is printed as its text, or built from one, a script that is made is run,
-//! or the text of the chip's topology is written.
+//! The top call of the program. It runs a script over a configuration object, writes the reach of a master, compares
+//! two runs, prints an object as text, builds one from its text, runs a generated script, or writes the text of the
+//! chip's topology.
 #![tactic(auto)]
 
 mod making;

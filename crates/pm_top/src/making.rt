@@ -1,4 +1,5 @@
-//! A script of so many lines is made and run over the laboratory's object, and the summary of its run is written.
+//! The form `make N`: a script of N lines is generated and run over the laboratory's object, and a summary of the run
+//! is written.
 
 ghost use Rattle.std.specs.Prelude.{◌≡◌, ◌⊎◌, ◌≤◌, ◌+◌, ◌*◌, [], None, length, IfOk, MatchResult};
 ghost use Rattle.pm_base.specs.declared.names.Unit.{Unit};
@@ -26,10 +27,10 @@ use pm_topology::Topology;
 use pm_trace::{Fault, refuse};
 use std::alloc::Global;
 
-/// The most lines of a script that is made, beside its opening.
+/// The most lines of a generated script, besides its first lines.
 const LINE_LIMIT: u64 = 200_000;
 
-/// The laboratory's object, where the word is a number of lines.
+/// The laboratory's object, if the word is a number of lines; else the fault Number.
 pub(crate) fn laboratory_for(alloc: Global, word: &str) -> Result<Object, Fault>
     ensures exact { (result ≡ Err Fault.Memory) ⊎ (laboratory_for word.now ≡ result) }
     ensures formed { IfOk result IsObject }
@@ -51,7 +52,7 @@ pub(crate) fn laboratory(alloc: Global) -> Result<Object, Fault>
     }
 }
 
-/// How many lines a script has that is made: 0 where none is.
+/// The number of lines of a generated script; 0 if the form generates none.
 pub(crate) fn lines_by(source: Source, word: &str) -> u32
     ensures { result ≡ lines_by source word.now }
 {
@@ -61,7 +62,7 @@ pub(crate) fn lines_by(source: Source, word: &str) -> u32
     }
 }
 
-/// How many lines a word asks for: 1 to 200,000.
+/// The number of lines that a word asks for, 1 to 200,000; None for any other word.
 fn lines_asked(word: &str) -> Option<u32>
     ensures { result ≡ lines_asked word.now }
 {
@@ -71,7 +72,7 @@ fn lines_asked(word: &str) -> Option<u32>
     }
 }
 
-/// Runs a script of so many lines, which is made, over an object and a topology, and writes the summary of its run.
+/// Generates a script of so many lines, runs it over an object and a topology, and writes the summary of the run.
 pub(crate) fn make_over<O: Sink, D: Device, H: Responder, T: Handler>(
     alloc: Global,
     object: Object,
@@ -97,7 +98,7 @@ pub(crate) fn make_over<O: Sink, D: Device, H: Responder, T: Handler>(
     }
 }
 
-/// The script of so many lines as an input, and an empty sink for the text of its run.
+/// A generated script of so many lines as an input in memory, and an empty sink in memory for the text of its run.
 fn script_and_sink(alloc: Global, lines: u32) -> Result<(OneInput, MemSink), NoMemory>
     ensures script { IfOk result (λ both. both.0 ≡ record { bytes = made lines; place = None; calls = [] }) }
     ensures meant { IfOk result (λ _. HasMeaning (made lines)) }
@@ -109,9 +110,9 @@ fn script_and_sink(alloc: Global, lines: u32) -> Result<(OneInput, MemSink), NoM
     Ok((OneInput::of(script), text))
 }
 
-/// The summary of the run of a script that is made, over an object and a topology. The run's text is kept in memory, so
-/// that want of it can come late, and a write to it fails only for that. Each line that is made has a meaning, and no
-/// read of it fails.
+/// Runs a generated script of so many lines over an object and a topology, and returns the summary of the run. Its
+/// text is kept in memory, so that `NoMemory` may come late. Nothing else fails: each generated line can be read, and
+/// the input and the sink are in memory.
 fn run_made<D: Device, H: Responder, T: Handler>(
     alloc: Global,
     object: Object,

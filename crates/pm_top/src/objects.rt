@@ -1,4 +1,4 @@
-//! A named object is read, from its bytes or from its text.
+//! Reading a named object, from its bytes or from its text.
 
 ghost use Rattle.std.specs.Prelude.{◌≡◌, ◌⊎◌, IfOk};
 ghost use Rattle.pm_io.specs.Readings.{Meanwhile};
@@ -17,13 +17,13 @@ use pm_objtext::{BuildError, build};
 use pm_trace::Fault;
 use std::alloc::Global;
 
-/// The most bytes of an object.
+/// The most bytes that are read of an object.
 pub const OBJECT_LIMIT: u32 = 16_384;
 
-/// The most bytes of the text of an object.
+/// The most bytes that are read of an object's text.
 const TEXT_LIMIT: u32 = 1_048_576;
 
-/// Reads the named object.
+/// Reads the object that a name of the inputs holds as bytes. Fails with Read, Object or Memory.
 pub(crate) fn read_object<I: Inputs>(
     alloc: Global,
     inputs: &mut I,
@@ -44,7 +44,7 @@ pub(crate) fn read_object<I: Inputs>(
     }
 }
 
-/// Reads an object from its bytes.
+/// The object that these bytes are. Fails with Object or Memory.
 fn object_from(alloc: Global, bytes: &[u8]) -> Result<Object, Fault>
     ensures exact { (result ≡ Err Fault.Memory) ⊎ (object_or_fault (reading bytes.now) ≡ result) }
     ensures reads { IfOk result (Reads bytes.now) }
@@ -57,7 +57,7 @@ fn object_from(alloc: Global, bytes: &[u8]) -> Result<Object, Fault>
     }
 }
 
-/// Reads the named text of an object.
+/// Reads the object that a name of the inputs holds as text. Fails with Read, Text or Memory.
 pub(crate) fn read_text<I: Inputs>(
     alloc: Global,
     inputs: &mut I,
@@ -78,7 +78,7 @@ pub(crate) fn read_text<I: Inputs>(
     }
 }
 
-/// Reads an object from its text.
+/// The object that this text says. Fails with Text or Memory.
 fn object_from_text(alloc: Global, text: &[u8]) -> Result<Object, Fault>
     ensures exact { (result ≡ Err Fault.Memory) ⊎ (text_or_fault (building text.now) ≡ result) }
     ensures means { IfOk result (Means text.now) }

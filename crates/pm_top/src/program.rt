@@ -43,16 +43,22 @@ use pm_trace::{Fault, exits_say, refuse};
 use std::alloc::Global;
 use std::mem::replace;
 
-/// Does all that the program does, for its words without its own name. `replay OBJ SCRIPT` runs the
-/// script of one name over the object of another, `reach OBJ NODE` writes what a master of an object can
-/// reach, `isolate OBJ SCRIPT NODE` writes that and what differs between the run of the script and the run
-/// without the messages of the master, `print OBJ` writes the text of an object, `build TEXT` the bytes of
-/// the object that a text says, `make N` the summary of the run of a script of N lines that is made, and
-/// `table` the text of the chip's topology. A `TOPO` behind the words of the first three names the text of
-/// another topology, which they are done over in place of the chip's. No other words have a form. In `replay` and `make`
-/// the modules answer messages of their words, and the tasks are started, taken out and called as the script says.
-/// `replay` and `make` make the device, which stands at 0 everywhere, follow the book of requirements; with a `TOPO`
-/// `replay` fits it to that topology before. No other words command it.
+/// Does all that the program does, by the words after its own name, and returns the exit.
+///
+/// - `replay OBJ SCRIPT` runs a script over an object.
+/// - `reach OBJ NODE` writes what a master of an object can reach.
+/// - `isolate OBJ SCRIPT NODE` writes that, and the differences between the run of the script and the run without the
+///   messages of the master.
+/// - `print OBJ` writes the text of an object, and `build TEXT` the bytes of the object that a text says.
+/// - `make N` writes the summary of the run of a generated script of N lines.
+/// - `table` writes the text of the chip's topology.
+///
+/// OBJ, SCRIPT, TEXT and TOPO are names of the inputs. A `TOPO` behind the words of the first three names the text of
+/// a topology, which replaces the chip's. Any other words end with Usage.
+///
+/// `replay` and `make` drive the device, which is at 0 everywhere before, as the book requires; a `replay` with a
+/// `TOPO` fits it to that topology first. In both, modules answer messages with their words, and timed tasks are
+/// started, taken out and called. Nothing else touches the device and the tasks.
 pub fn pm_main<I: Inputs, O: Sink, D: Device, H: Responder, T: Handler>(
     alloc: Global,
     words: &[String],
@@ -63,89 +69,88 @@ pub fn pm_main<I: Inputs, O: Sink, D: Device, H: Responder, T: Handler>(
     tasks: &mut TasksOf<T>,
 ) -> Exit
     requires idle { D.values_observable → (unit : Unit) → (D.state dev.old).value unit ≡ 0 }
-    // On Done the inputs held what the words name, and the whole text of what the words ask for was
-    // written; `replay` and `make` drove the device through the run of the script over the object.
+    // On Done the inputs held what the words name, and all that the words ask for was written; `replay` and `make`
+    // drove the device through the run of the script over the object.
     ensures done { I.observable → O.observable → result ≡ Exit.Done
         → IsDone I.Inputs O.Sink D.Device (map string_bytes words.now)
         (standing H.Responder T.Handler modules.now tasks.old)
         (standing H.Responder T.Handler modules.now tasks.new)
         (world inputs.old out.old dev.old) (world inputs.new out.new dev.new) }
-    // On Done of `replay` the headline holds of the bytes that the inputs held.
+    // On Done of `replay` the headline holds for the bytes that the inputs held.
     ensures headline { I.observable → O.observable → (named : Option ℕ) → result ≡ Exit.Done
         → request_of (map string_bytes words.now) ≡ Some (over named Replay)
         → Headline O.Sink D.Device (HoldsEach (I.state inputs.old)) named (map string_bytes words.now)
         (standing H.Responder T.Handler modules.now tasks.old) out.old out.new dev.old dev.new }
-    // And of any inputs it holds of the bytes that their calls gave.
+    // For any inputs, it holds for the bytes that their calls gave.
     ensures given { O.observable → (named : Option ℕ) → result ≡ Exit.Done
         → request_of (map string_bytes words.now) ≡ Some (over named Replay)
         → Meanwhile (I.state inputs.old) (I.state inputs.new) (λ calls.
         Headline O.Sink D.Device (GaveEach calls) named (map string_bytes words.now)
         (standing H.Responder T.Handler modules.now tasks.old) out.old out.new dev.old dev.new) }
-    // Usage comes exactly where the words have no form.
+    // Usage comes exactly if the words have no form.
     ensures usage { (result ≡ Exit.Usage) ↔ (form (map string_bytes words.now) ≡ None) }
-    // On Done of `replay`, whatever the inputs and the sink show: the device was driven through the whole run of a
-    // script over an object and the chip, or, if the words name a topology, over one that it was fitted to first.
+    // On Done of `replay`, whatever the inputs and the sink show, the device was driven through the whole run of a
+    // script over an object and the chip, or, if the words name a topology, over one to which it was fitted first.
     ensures driven { (named : Option ℕ) → result ≡ Exit.Done
         → request_of (map string_bytes words.now) ≡ Some (over named Replay) → DroveRun D.Device named dev.old dev.new }
-    // What the inputs hold decides the exit, unless memory is wanted or the sink fails.
+    // The exit follows from what the inputs hold, unless memory runs out or the sink fails.
     ensures decided { I.observable
         → Decides O.Sink (map string_bytes words.now) (I.state inputs.old) out.old out.new result }
-    // Where what the words ask for is right, the inputs show no cause of a fault and the sink doesn't fail, the run is
-    // Done, or memory is wanted.
+    // If all that the words ask for is right, the inputs show no cause of a fault, and the sink doesn't fail, then
+    // the exit is Done, or memory ran out.
     ensures complete { IsComplete I.Inputs O.Sink D.Device (map string_bytes words.now)
         (standing H.Responder T.Handler modules.now tasks.old)
         (standing H.Responder T.Handler modules.now tasks.new)
         (world inputs.old out.old dev.old) (world inputs.new out.new dev.new) result }
-    // On every exit: what was asked for, what was written of it, what was done to the device, and how the tasks are
-    // left.
+    // On every exit: what was asked for, how much of it was written, what was done to the device, and the state of
+    // the tasks.
     ensures ran { Ran I.Inputs O.Sink D.Device (map string_bytes words.now)
         (standing H.Responder T.Handler modules.now tasks.old)
         (standing H.Responder T.Handler modules.now tasks.new)
         (world inputs.old out.old dev.old) (world inputs.new out.new dev.new) result }
     // On every exit: nothing was used without power, and no domain went down under its users.
     ensures safe { IsSafeRun D.Device (topology_in (map string_bytes words.now)) dev.old dev.new }
-    // On every exit, of the run of whichever object and topology that the device was driven through: nothing that a
-    // master sends changes what is beyond its reach.
+    // On every exit, for a run of any object and topology that the device was driven through: nothing that a master
+    // sends changes what is beyond its reach.
     ensures keeps { EachKeepsApart D.Device dev.new }
-    // Each answer of a run of whichever object and topology has its causes in the book before its step.
+    // Each answer in a run of any object and topology has its causes in the book before its step.
     ensures causes { EachHasCauses }
-    // Each line of a run of whichever object and topology that serves sends the messages in all boxes, each once and by
-    // rising mask of their masters, and leaves all boxes empty.
+    // Each line that serves the boxes, in a run of any object and topology, sends the message of each full box once,
+    // by rising mask of the masters, and leaves all boxes empty.
     ensures boxes { EachEmptiesBoxes }
-    // The line of a power call, of a run of whichever object and topology, is the run of the events that it is lowered
-    // to by the topology and the call alone, and then its answer; and so is a script with power calls the script with a
-    // line for each of these events.
+    // The line of a power call, in a run of any object and topology, is the run of the events that it becomes by the
+    // topology and the call alone, and then its answer. So a script with power calls is the script with a line for
+    // each of these events.
     ensures calls { EachLowersCalls }
-    // Each line of a run of whichever object and topology tells exactly the calls of timed tasks that are due in it,
-    // and a task that is stored before and after was called as often as the lines tell it.
+    // Each line in a run of any object and topology tells exactly the calls of timed tasks that are due in it. A task
+    // that is stored before and after was called as often as the lines tell.
     ensures tasks { EachTellsCalls (standing H.Responder T.Handler modules.now tasks.old) }
-    // At the load of a run of whichever object and topology, and after each of its core steps, the clocks are as the
-    // calls left them that weren't refused, without the enables of masters that are off or may not use the clock's
-    // slave by the object in force. A root runs where its slave is in a state other than 0, and any other clock where
-    // a master enables it and the parent that is chosen for it runs.
+    // At the load of a run of any object and topology, and after each of its core steps, the clocks are as the
+    // accepted calls left them, without the enables of masters that are off or may not use the clock's slave by the
+    // object in force. A root runs if its slave is in a state other than 0. Any other clock runs if a master enables
+    // it and its selected parent runs.
     ensures clocks { EachFollowsClocks }
-    // On every exit, of any inputs: the names that the words give are begun in the order of the work, each once, and
-    // read to the end or to one byte past the limit, or up to where the run ends before that; nothing else is begun or
-    // read.
+    // On every exit, for any inputs: the names of the words are opened in the order of the work, each once, and read
+    // to their end, or to one byte past the limit, or to where the run ends. Nothing else is opened or read.
     ensures begun { Meanwhile (I.state inputs.old) (I.state inputs.new)
         (FormReads (form (map string_bytes words.now)) (map string_bytes words.now) result) }
-    // Before a script is run nothing is done to the device, but that it may be fitted before memory is wanted.
+    // Before a script is run nothing is done to the device, except that it may be fitted before memory runs out.
     ensures untouched { IsBeforeRun (form (map string_bytes words.now)) result → dev.old ≡ dev.new }
-    // And no task is started, taken out or called.
+    // And no task is started, taken out or called before.
     ensures still { IsBeforeRun (form (map string_bytes words.now)) result
         → standing H.Responder T.Handler modules.now tasks.old ≡ standing H.Responder T.Handler modules.now tasks.new }
     // On Memory nothing was written but the fault line, as far as the sink took it.
     ensures memory { result ≡ Exit.Memory → IsStarved O.Sink out.old out.new }
-    // ReadFault comes only where the inputs' count of faults rose. (Here and below a count at its last value, which
-    // can't rise, counts as one that rose.)
+    // ReadFault comes only if the inputs' count of faults rose. (Here and below, a count at its greatest value, which
+    // can't rise, counts as risen.)
     ensures read_fault { result ≡ Exit.ReadFault → Rose (I.state inputs.old).faults (I.state inputs.new).faults }
-    // Where the inputs are observable, ReadFault comes only where a name isn't there, one has a failing
-    // byte, or fewer inputs can be begun than are named.
+    // If the inputs are observable, ReadFault comes only if a name isn't there, one has a failing byte, or fewer
+    // inputs can be opened than are named.
     ensures read_cause { I.observable → result ≡ Exit.ReadFault
         → InputsMayFail (map string_bytes words.now) (I.state inputs.old) }
-    // WriteFault comes only where a write failed, or took 0 of a piece that isn't empty.
+    // WriteFault comes only if a write failed, or took 0 bytes of a piece that isn't empty.
     ensures write_fault { result ≡ Exit.WriteFault → HasFailed (O.state out.old) (O.state out.new) }
-    // Done comes only where no write failed, and none took 0 of a piece that isn't empty.
+    // Done comes only if no write failed, and none took 0 bytes of a piece that isn't empty.
     ensures unfailed { result ≡ Exit.Done → IsUnfailed (O.state out.old) (O.state out.new) }
 {
     exits_say::<O>();
@@ -165,7 +170,7 @@ pub fn pm_main<I: Inputs, O: Sink, D: Device, H: Responder, T: Handler>(
     run_board(alloc, words, inputs, out, dev, modules, tasks)
 }
 
-/// Takes the tasks from the caller, runs the words, and puts the tasks back.
+/// Runs the words with the caller's modules and tasks as a board, and gives the tasks back.
 fn run_board<I: Inputs, O: Sink, D: Device, H: Responder, T: Handler>(
     alloc: Global,
     words: &[String],
@@ -204,7 +209,7 @@ fn run_board<I: Inputs, O: Sink, D: Device, H: Responder, T: Handler>(
     exit
 }
 
-/// Runs the words.
+/// Runs the words: refuses them with Usage if they have no form.
 fn run_words<I: Inputs, O: Sink, D: Device, H: Responder, T: Handler>(
     alloc: Global,
     words: &[String],
@@ -239,7 +244,7 @@ fn run_words<I: Inputs, O: Sink, D: Device, H: Responder, T: Handler>(
     }
 }
 
-/// Reads what the form of a request reads, and does its work.
+/// Reads the inputs of a request, and does its work.
 fn run_request<I: Inputs, O: Sink, D: Device, H: Responder, T: Handler>(
     alloc: Global,
     request: Request,

@@ -1,4 +1,4 @@
-//! What a master of an object can reach, as a text.
+//! The text of a master's reach.
 
 ghost use Rattle.std.specs.Prelude.{◌==◌, IfOk, IsTrue};
 ghost use Rattle.std.specs.List.{list_any};
@@ -11,7 +11,8 @@ use pm_topology::Topology;
 use pm_trace::reach_text;
 use std::alloc::Global;
 
-/// The text of what a master of an object can reach on a chip.
+/// The text of what a master of an object can reach on a chip: a line for each member. Fails with `NoMemory` if there
+/// is not enough memory.
 pub(crate) fn text_of_reach(
     alloc: Global,
     object: &Object,

@@ -1,5 +1,5 @@
-//! What a form reads before its script: the object or the number of lines, then the topology, and then the master
-//! that a word names.
+//! The inputs of a form before its script: the object or the number of lines, then the topology, then the word of a
+//! master.
 
 ghost use Rattle.std.specs.Prelude.{◌≡◌, ◌≢◌, ◌⊎◌, ◌==◌, None, IfOk, IfSome, IsTrue, map, string_bytes};
 ghost use Rattle.std.specs.List.{list_any};
@@ -21,8 +21,8 @@ use pm_topology::Topology;
 use pm_trace::Fault;
 use std::alloc::Global;
 
-/// What a work is done on: an object, the topology that it is over, a master of the object, where a word names one,
-/// and how many lines a script has that is made, or 0.
+/// The subject of a work: an object, a topology, a master of the object if the form names one, and the number of
+/// lines of a generated script, or 0.
 #[derive(Debug, Drop)]
 pub struct Subject {
     pub object: Object,
@@ -31,7 +31,7 @@ pub struct Subject {
     pub lines: u32,
 }
 
-/// Reads the object of a form, then its topology, and then the master that a word of it names.
+/// Reads the subject of a form: its object, then its topology, then the word of a master. Fails with the first fault.
 pub(crate) fn read_subject<I: Inputs>(
     alloc: Global,
     form: Form,
@@ -53,7 +53,7 @@ pub(crate) fn read_subject<I: Inputs>(
     }
 }
 
-/// Reads the topology of a form after its object, and then the master that a word of it names.
+/// Reads the rest of a subject after its object: the topology, and then the word of a master.
 fn read_rest<I: Inputs>(
     alloc: Global,
     object: Object,
@@ -79,14 +79,15 @@ fn read_rest<I: Inputs>(
             words,
         ),
         Err(fault) => {
-            // Let go here, at a type that is any, which costs less to prove.
+            // Dropped here, where its type is generic: that costs less to prove.
             drop(object);
             Err(fault)
         }
     }
 }
 
-/// Reads the named object, from its bytes or from its text; for a number of lines it is the laboratory's.
+/// Reads the named object, from its bytes or its text. With a number of lines, or without a name, it is the
+/// laboratory's.
 fn read_source<I: Inputs>(
     alloc: Global,
     source: Source,
@@ -107,7 +108,8 @@ fn read_source<I: Inputs>(
     }
 }
 
-/// The object and its topology with the master that the word at a place names, where there is one.
+/// The subject of an object and a topology, with the master in the word at place `node`, if there is one. Fails with
+/// Node if the object has no such master.
 fn with_master(
     object: Object,
     topology: Topology,
@@ -134,14 +136,14 @@ fn with_master(
             lines,
         }),
         None => {
-            // Let go here, at a type that is any, which costs less to prove.
+            // Dropped here, where their types are generic: that costs less to prove.
             drop((object, topology));
             Err(Fault::Node)
         }
     }
 }
 
-/// The master of an object that a word names.
+/// The master of an object whose number a word is; None if it is no number, or the object has no such master.
 fn master_of(object: &Object, name: &str) -> Option<NodeId>
     ensures exact { result ≡ master_of object.now name.now }
     ensures named { IfSome result (λ node. IsTrue (list_any (λ r. r.node == node.0) object.now.masters)) }
@@ -154,7 +156,7 @@ fn master_of(object: &Object, name: &str) -> Option<NodeId>
     }
 }
 
-/// The word that names the script of a form: an empty one where there is none.
+/// The word that names the script of a form, or an empty one if it has none.
 pub(crate) fn script_word(form: Form, words: &[String]) -> &str
     ensures { result.now ≡ script_word form.script (map string_bytes words.now) }
 {

@@ -1,4 +1,4 @@
-//! A script is run over an object and a topology.
+//! The form `replay OBJ SCRIPT`: a script is run over an object and a topology.
 
 ghost use Rattle.std.specs.Prelude.{◌≡◌, IfNone};
 ghost use Rattle.pm_base.specs.declared.names.Unit.{Unit};
@@ -24,8 +24,8 @@ use pm_topology::Topology;
 use pm_trace::{Fault, refuse};
 use std::alloc::Global;
 
-/// Runs a script over an object and a topology. Where a word names the topology the device is fitted to it first;
-/// else it is the chip's, and the device is of it already.
+/// Runs a script over an object and a topology. If a word names the topology, the device is fitted to it first; else
+/// it is the chip's, as the device's is.
 pub(crate) fn replay_over<I: Inputs, O: Sink, D: Device, H: Responder, T: Handler>(
     alloc: Global,
     named: Option<usize>,

@@ -1,4 +1,4 @@
-//! The topology that a form is carried out over: that of a named text, or the chip's.
+//! The topology of a form: that of a named text, or the chip's.
 
 ghost use Rattle.std.specs.Prelude.{◌≡◌, ◌⊎◌, ◌∷◌, [], IfOk, map, string_bytes};
 ghost use Rattle.pm_io.specs.Calls.{named};
@@ -19,10 +19,11 @@ use pm_topology::Topology;
 use pm_trace::Fault;
 use std::alloc::Global;
 
-/// The most bytes of the text of a topology.
+/// The most bytes that are read of a topology's text.
 const TOPOLOGY_LIMIT: u32 = 1_048_576;
 
-/// The topology that the text under the word at a place means; the chip's, where no word names one.
+/// The topology that the text named by the word at `place` says; without a place the chip's. Fails with Read,
+/// TopologyText, Topology or Memory.
 pub(crate) fn topology_for<I: Inputs>(
     alloc: Global,
     place: Option<usize>,
@@ -53,7 +54,7 @@ fn built_in(alloc: Global) -> Result<Topology, Fault>
     }
 }
 
-/// Reads the named text of a topology.
+/// Reads the topology that a name of the inputs holds as text. Fails with Read, TopologyText, Topology or Memory.
 fn read_named<I: Inputs>(alloc: Global, inputs: &mut I, name: &str) -> Result<Topology, Fault>
     ensures read { (result ≡ Err Fault.Memory)
         ⊎ ReadsText I.observable name.now (I.state inputs.old) (I.state inputs.new) result }
@@ -70,7 +71,7 @@ fn read_named<I: Inputs>(alloc: Global, inputs: &mut I, name: &str) -> Result<To
     }
 }
 
-/// Reads a topology from its text.
+/// The topology that this text says. Fails with TopologyText, Topology or Memory.
 fn topology_from(alloc: Global, text: &[u8]) -> Result<Topology, Fault>
     ensures exact { (result ≡ Err Fault.Memory) ⊎ (topology_or_fault (meaning text.now) ≡ result) }
     ensures supported { IfOk result IsSupported }

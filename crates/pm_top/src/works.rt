@@ -1,4 +1,4 @@
-//! The forms of the words of the program, as data: what each of them reads, and its work, with the pieces that some write.
+//! The forms of the program's words, as data: what each reads, and its work. Besides, the works that write one piece.
 
 ghost use Rattle.std.specs.Prelude.{◌≡◌, IfNone, IfOk, is_some, map, string_bytes};
 ghost use Rattle.pm_base.specs.declared.names.Unit.{Unit};
@@ -31,36 +31,36 @@ use pm_topofile::print_topology;
 use pm_trace::{Fault, refuse};
 use std::alloc::Global;
 
-/// What the word after the first names.
+/// The kind of the word after the first.
 #[derive(Clone, Copy, Debug, PartialEq, Eq)]
 pub enum Source {
-    /// A configuration object.
+    /// The name of a configuration object.
     Object,
-    /// The text of one.
+    /// The name of an object's text.
     Text,
-    /// Nothing: it is how many lines a script has that is made, and the object is the laboratory's.
+    /// The number of lines of a generated script; the object is the laboratory's.
     Number,
-    /// Nothing: there is no such word. The laboratory's object stands in.
+    /// There is no such word; the object is the laboratory's, which nothing reads.
     Nothing,
 }
 
-/// What is done with what a form reads.
+/// The work of a form, on what it reads.
 #[derive(Clone, Copy, Debug, PartialEq, Eq)]
 pub enum Work {
-    /// The script is run over the object.
+    /// Run the script over the object.
     Replay,
-    /// The run of the script is compared with the run without the messages of the master.
+    /// Compare the run of the script with the run without the messages of the master.
     Isolate,
-    /// A script that is made is run over the object, and the summary of its run is written.
+    /// Run a generated script over the object, and write the summary of its run.
     Make,
-    /// A piece is written, and nothing else is done.
+    /// Write one piece, and nothing else.
     Write(Piece),
 }
 
-/// What a form writes that writes one piece.
+/// The one piece that some forms write.
 #[derive(Clone, Copy, Debug, PartialEq, Eq)]
 pub enum Piece {
-    /// What the master can reach.
+    /// The reach of the master.
     Reach,
     /// The text of the object.
     ObjectText,
@@ -70,30 +70,29 @@ pub enum Piece {
     TopologyText,
 }
 
-/// What the words ask for: a work, and the place of the word that names the topology that it is done over, where
-/// there is one; else that is the chip's.
+/// What the words ask for: a work, and the place of the word that names a topology; None for the chip's.
 #[derive(Clone, Copy, Debug, PartialEq, Eq)]
 pub struct Request {
     pub work: Work,
     pub topology: Option<usize>,
 }
 
-/// A form of the words: what is read, in the order in which it is read, and the work.
+/// A form of the words: its inputs, in the order in which they are read, and its work.
 #[derive(Clone, Copy, Debug)]
 pub struct Form {
-    /// What the word at place 1 names.
+    /// The kind of the word at place 1.
     pub source: Source,
-    /// The place of the word that names the text of a topology, where there is one.
+    /// The place of the word that names the text of a topology, if there is one.
     pub topology: Option<usize>,
-    /// The place of the word that is the number of a master of the object, where there is one.
+    /// The place of the word that is the number of a master of the object, if there is one.
     pub node: Option<usize>,
-    /// The place of the word that names a script, where there is one.
+    /// The place of the word that names a script, if there is one.
     pub script: Option<usize>,
     pub work: Work,
 }
 
-/// The form of a request: `replay OBJ SCRIPT`, `reach OBJ NODE`, `isolate OBJ SCRIPT NODE`, each with a `TOPO` behind
-/// it where a topology is named, `print OBJ`, `build TEXT`, `make N`, `table`.
+/// The form of a request: `replay OBJ SCRIPT`, `reach OBJ NODE` or `isolate OBJ SCRIPT NODE`, each with an optional
+/// `TOPO`; `print OBJ`, `build TEXT`, `make N` or `table`.
 pub(crate) fn form_of(request: Request) -> Form
     ensures { result ≡ form_of request.work request.topology }
 {
@@ -115,7 +114,8 @@ pub(crate) fn form_of(request: Request) -> Form
     }
 }
 
-/// A topology is named beside an object alone.
+/// The place of the topology's name; None unless the form reads an object, since only such a form may name a
+/// topology.
 fn beside(source: Source, topology: Option<usize>) -> Option<usize>
     ensures { result ≡ beside source topology }
 {
@@ -125,7 +125,7 @@ fn beside(source: Source, topology: Option<usize>) -> Option<usize>
     }
 }
 
-/// What the words ask for: the first word and the number of words decide.
+/// The request of the words, by the first word and their number; None if they have no form.
 pub(crate) fn request_of(words: &[String]) -> Option<Request>
     ensures { result ≡ request_of (map string_bytes words.now) }
 {
@@ -139,7 +139,7 @@ pub(crate) fn request_of(words: &[String]) -> Option<Request>
     }
 }
 
-/// A work over the chip's topology.
+/// A request for a work over the chip's topology.
 fn over_chip(work: Work) -> Option<Request>
     ensures { result ≡ over_chip work }
 {
@@ -149,7 +149,7 @@ fn over_chip(work: Work) -> Option<Request>
     })
 }
 
-/// A work over the topology that the word at a place names.
+/// A request for a work over the topology that the word at a place names.
 fn over_named(work: Work, place: usize) -> Option<Request>
     ensures { result ≡ over_named work place }
 {
@@ -159,7 +159,7 @@ fn over_named(work: Work, place: usize) -> Option<Request>
     })
 }
 
-/// What one word asks for.
+/// The request of one word, if it has a form.
 fn request_of_one(first: &str) -> Option<Request>
     ensures { result ≡ request_of_one first.now }
 {
@@ -169,7 +169,7 @@ fn request_of_one(first: &str) -> Option<Request>
     }
 }
 
-/// What two words ask for, by the first.
+/// The request of two words, by the first, if they have a form.
 fn request_of_two(first: &str) -> Option<Request>
     ensures { result ≡ request_of_two first.now }
 {
@@ -181,7 +181,7 @@ fn request_of_two(first: &str) -> Option<Request>
     }
 }
 
-/// What three words ask for, by the first.
+/// The request of three words, by the first, if they have a form.
 fn request_of_three(first: &str) -> Option<Request>
     ensures { result ≡ request_of_three first.now }
 {
@@ -192,7 +192,7 @@ fn request_of_three(first: &str) -> Option<Request>
     }
 }
 
-/// What four words ask for, by the first.
+/// The request of four words, by the first, if they have a form.
 fn request_of_four(first: &str) -> Option<Request>
     ensures { result ≡ request_of_four first.now }
 {
@@ -204,7 +204,7 @@ fn request_of_four(first: &str) -> Option<Request>
     }
 }
 
-/// What five words ask for, by the first.
+/// The request of five words, by the first, if they have a form.
 fn request_of_five(first: &str) -> Option<Request>
     ensures { result ≡ request_of_five first.now }
 {
@@ -214,7 +214,7 @@ fn request_of_five(first: &str) -> Option<Request>
     }
 }
 
-/// The word at a place: an empty one where there is none.
+/// The word at a place, or an empty one if there is none.
 pub(crate) fn word(words: &[String], place: usize) -> &str
     ensures { result.now ≡ word place (map string_bytes words.now) }
 {
@@ -224,7 +224,7 @@ pub(crate) fn word(words: &[String], place: usize) -> &str
     }
 }
 
-/// A piece of a subject.
+/// The text or the bytes of a piece, from its subject, which has to have a master if the piece needs one.
 fn piece_of(alloc: Global, piece: Piece, subject: &Subject) -> Result<Vec<u8>, NoMemory>
     requires sound { IsSubject subject.now }
     requires complete { is_some subject.now.master ≡ is_some (piece_node piece) }
@@ -243,7 +243,7 @@ fn piece_of(alloc: Global, piece: Piece, subject: &Subject) -> Result<Vec<u8>, N
     }
 }
 
-/// Writes a piece of a subject.
+/// Writes a piece of its subject, and returns the exit.
 fn write_piece<O: Sink>(alloc: Global, piece: Piece, subject: &Subject, out: &mut O) -> Exit
     requires sound { IsSubject subject.now }
     requires complete { is_some subject.now.master ≡ is_some (piece_node piece) }
@@ -255,7 +255,7 @@ fn write_piece<O: Sink>(alloc: Global, piece: Piece, subject: &Subject, out: &mu
     }
 }
 
-/// Does a work on its subject, with the script of a name.
+/// Does a work on its subject, with the script of this name if it needs one, and returns the exit.
 pub(crate) fn do_work<I: Inputs, O: Sink, D: Device, H: Responder, T: Handler>(
     alloc: Global,
     request: Request,

@@ -1,4 +1,4 @@
-//! A text is written whole.
+//! A command whose text is one piece.
 
 ghost use Rattle.std.specs.Prelude.{◌∷◌, [], None};
 ghost use Rattle.pm_trace.specs.Report.{Reports};
@@ -6,7 +6,7 @@ ghost use Rattle.pm_trace.specs.Report.{Reports};
 use pm_base::{Exit, Failed};
 use pm_io::{Sink, write_all};
 
-/// Writes all that a command writes.
+/// Writes the whole text of a command in one piece, and returns the exit.
 pub(crate) fn write_whole<O: Sink>(text: &[u8], out: &mut O) -> Exit
     ensures { Reports O.Sink (record { body = text.now ∷ []; fault = None }) out.old out.new result }
 {

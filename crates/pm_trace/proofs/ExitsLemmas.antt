@@ -1,4 +1,4 @@
--- What each exit of a report says, by its fault and its cut.
+-- The promises of a report's exit, by its fault and its cut.
 use Rattle.std.proofs.Common.{◌≡◌, ℕ, ◌<◌, Bool, true, false, List, ◌++◌, length, Option, Some, None, if◌then◌else◌, refl, sym, ◌∙◌, ap, subst, arith, inl, inr}
 use Rattle.std.specs.Prelude.{nat_lt}
 use Rattle.std.specs.List.{concat}
@@ -19,7 +19,7 @@ use Rattle.pm_trace.specs.Report.{Report, exit_of, fault_lines, pieces}
 
 -- ---- the fault of an exit
 
--- what fault an exit is that of, where there is one fault alone, and that it is no failed sink's
+-- the fault with which an exit comes, if it is only one, and the exit isn't that of a failed sink
 abbrev pub Only : Exit → Option Fault → Type 0
 Only exit.Done fault = fault ≡ None
 Only exit.Usage fault = fault ≡ Some Usage

@@ -45,7 +45,7 @@ line_before first rest later =
 pub at_end : (size : ℕ) (text line bytes : List ℕ) → length text ≤ size → bytes ≡ line ++ drop size text → bytes ≡ line
 at_end size text line bytes short is = is ∙ ap (λ later. line ++ later) (drop_all size text short) ∙ append-nil line
 
--- the digits of the numbers below this one stand in the table of pairs
+-- the digits of each number below this one are in the table of pairs
 abbrev are_pairs : ℕ → Bool
 are_pairs zero = true
 are_pairs (suc n) = (eqb (get_or PAIRS (2 * n) 0) (48 + n / 10) && eqb (get_or PAIRS (2 * n + 1) 0) (48 + n % 10)) && are_pairs n

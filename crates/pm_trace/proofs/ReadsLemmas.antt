@@ -32,7 +32,7 @@ refused_exit fault (Some k) = ap (λ (b : Bool). if b then exit.WriteFault else 
 pub refused : {O : Type 0} (o : Sink.Ghosts O) (fault : Fault) (old new : O) (result : Exit) → Reports o (refusal fault) old new result → result ≡ exit_by fault
 refused o fault old new result reports = reports.ends ∙ refused_exit fault reports.cut
 
--- how a command ends that read all lines up to where they stop
+-- the end of a command that read all lines up to the stop
 abbrev pub EndsAfter : StopReason → Exit → Type 0
 EndsAfter reason.End due = (due ≡ exit.Done) ⊎ (due ≡ exit.WriteFault)
 EndsAfter reason.Limit due = due ≡ exit.TooLarge
@@ -63,7 +63,7 @@ left_read reason.Limit due id is calls reads = subst (λ (e : Exit). ReadsBegun 
 left_read reason.Failure due id is calls reads = subst (λ (e : Exit). ReadsBegun e id calls) (sym is) reads
 left_read reason.Unbegun due id is calls reads = absurd reads
 
--- all lines were taken up to where they stop, and the report ends so
+-- all lines were taken up to the stop, and the report ends so
 pub reads_closed : {O : Type 0} (o : Sink.Ghosts O) (stop : StopReason) (piece : List ℕ) (old new : O) (result : Exit) (id : ℕ) (before after : Moment) → Reports o (record { body = at_end (stop_of stop) piece; fault = fault_at 0 (stop_of stop) }) old new result → Meanwhile before after (LeftReadBy stop id (script_limit + 1)) → Meanwhile before after (ReadsBegun result id)
 reads_closed o stop piece old new result id before after reports reads =
     meanwhile_map before after (LeftReadBy stop id (script_limit + 1)) (ReadsBegun result id)
@@ -74,7 +74,7 @@ pub reads_bad : {O : Type 0} (o : Sink.Ghosts O) (fault : Fault) (old new : O) (
 reads_bad o fault old new result id before after bad reports reads =
     subst (λ (e : Exit). Meanwhile before after (ReadsBegun e id)) (sym (refused o fault old new result reports ∙ bad)) reads
 
--- memory is wanted after the first lines were read
+-- memory runs out after the first lines were read
 pub reads_starved : {O : Type 0} (o : Sink.Ghosts O) (old new : O) (result : Exit) (id : ℕ) (before after : Moment) → Reports o (refusal Memory) old new result → Meanwhile before after (ReadsBegun exit.Memory id) → Meanwhile before after (ReadsBegun result id)
 reads_starved o old new result id before after reports reads =
     subst (λ (e : Exit). Meanwhile before after (ReadsBegun e id)) (sym (refused o Memory old new result reports)) reads
@@ -101,12 +101,12 @@ module _ (name : List ℕ) (id : ℕ) where
   pub script_reads : (due : Exit) (before mid after : Moment) → Adds (Begin name (Some id)) before mid → Meanwhile mid after (ReadsBegun due id) → Meanwhile before after (ReadsScript due (script_named name))
   script_reads due before mid after adds reads = then_read (script_named name) id before mid after (ReadsBegun due id) (ReadsScript due (script_named name)) (by_exit due) adds reads
 
--- it could not be begun
+-- it couldn't be opened
 pub script_not_begun : {O : Type 0} (o : Sink.Ghosts O) (name : List ℕ) (old new : O) (result : Exit) (before after : Moment) → Reports o (refusal Read) old new result → Adds (Begin name None) before after → Meanwhile before after (ReadsScript result (script_named name))
 script_not_begun o name old new result before after reports adds =
     subst (λ (e : Exit). Meanwhile before after (ReadsScript e (script_named name))) (sym (refused o Read old new result reports)) (name_unbegun (script_named name) before after adds)
 
--- memory was wanted before it was begun
+-- memory ran out before it was opened
 pub script_starved : {O : Type 0} (o : Sink.Ghosts O) (n : Named) (old new : O) (result : Exit) (m : Moment) → Reports o (refusal Memory) old new result → Meanwhile m m (ReadsScript result n)
 script_starved o n old new result m reports =
     subst (λ (e : Exit). Meanwhile m m (ReadsScript e n)) (sym (refused o Memory old new result reports)) (meanwhile_none m (ReadsScript exit.Memory n) (inl refl))

@@ -58,7 +58,7 @@ never_memory n (Bad cause) is = cc
 never_memory n Past is = cc
 never_memory n Failed is = cc
 
--- a script that ended so could not be read on only where a read failed
+-- a script that ended so was not read on only after a failed read
 pub failure_by : (r : StopReason) → (r ≡ reason.Unbegun → ⊥) → fault_at 0 (stop_of r) ≡ Some Read → r ≡ reason.Failure
 failure_by reason.End begun is = cc
 failure_by reason.Limit begun is = cc
@@ -68,7 +68,7 @@ failure_by reason.Unbegun begun is = absurd (begun refl)
 pub line_is_read : (n : ℕ) (cause : LineFault) → ◌≡◌ {A = Option Fault} (Some (Line n cause)) (Some Read) → ⊥
 line_is_read n cause is = cc
 
--- the script can't be begun or read on
+-- the script can't be opened or read on
 abbrev pub Unreadable : Result Script Fault → Type 0
 Unreadable (Ok s) = s.stop ≡ Failed
 Unreadable (Err fault) = fault ≡ Read
@@ -91,15 +91,15 @@ module _ {I : Type 0} (i : Inputs.Ghosts I) (name : List ℕ) (old new : I) (res
   pub asked_starved : (result ≡ exit.ReadFault → ⊥) → IsScriptOf i name old new result (Err Memory)
   asked_starved other = record { shown = λ seen. inl refl; failed = λ is. absurd (other is); known = inr refl }
 
-  -- the script could not be begun
+  -- the script couldn't be opened
   pub asked_unbegun : (i.observable → script_in (i.state old) name ≡ None) → Rose (i.state old).faults (i.state new).faults → IsScriptOf i name old new result (Err Read)
   asked_unbegun none rose = record { shown = λ seen. inr (ap script_or_fault (sym (none seen))); failed = λ is. rose; known = inl refl }
 
-  -- a script was begun
+  -- a script was opened
   pub asked_begun : (s : Script) → (i.observable → script_in (i.state old) name ≡ Some s) → (result ≡ exit.ReadFault → Rose (i.state old).faults (i.state new).faults) → IsScriptOf i name old new result (Ok s)
   asked_begun s read fails = record { shown = λ seen. inr (ap script_or_fault (sym (read seen))); failed = fails; known = tt }
 
--- a text that was written up to a cut ends in ReadFault only where that is its fault
+-- a text that was written up to a cut ends with ReadFault only if that is its fault
 pub read_by : {O : Type 0} (o : Sink.Ghosts O) (r : Report) (cut : Option ℕ) (old new : O) (result : Exit) → Leaves o (pieces r) cut old new → result ≡ exit_of r cut → result ≡ exit.ReadFault → r.fault ≡ Some Read
 read_by o r cut old new result left ends is = (exit_says o r cut old new result left ends).read is
 

@@ -23,7 +23,7 @@ past_front f [] later k past none is = ap (slice_get later) (omega (arith, is))
 past_front f (y ∷ xs) later zero past none is = cc
 past_front f (y ∷ xs) later (suc k) past none is = past_front f xs later k past none (omega (arith, is))
 
--- the same of a slice that holds the front
+-- so for a slice that holds the front
 pub in_items : {X Y : Type 0} (f : X → Y) (xs held : List X) (later : List Y) (k : ℕ) (x : X) → held ≡ xs → slice_get held k ≡ Some x
     → Some (f x) ≡ slice_get (map f xs ++ later) k
 in_items f xs held later k x is found = in_front f xs later k x (sym (ap (λ items. slice_get items k) is) ∙ found)
@@ -41,13 +41,13 @@ line_told n lines k told text found is =
     ∙ (ap (option_map (numbered_line n)) (slice_get-map step_words lines k)
     ∙ (ap (λ (o : Option StepLine). option_map (numbered_line n) (option_map step_words o)) (sym found) ∙ ap (λ (t : List ℕ). Some t) (sym is)))
 
--- no line is missing where there are more
+-- within its length a list has an element
 pub none_missing : {X Y : Type 0} (f : X → Y) (xs : List X) (k : ℕ) → None ≡ slice_get xs k → k < length (map f xs) → ⊥
 none_missing f [] k none within = omega (arith, within)
 none_missing f (x ∷ xs) zero none within = cc
 none_missing f (x ∷ xs) (suc k) none within = none_missing f xs k none (omega (arith, within))
 
--- what may stand past all others is there, where so many stand
+-- within the length of a list, its element is the last one that is found past all others
 pub some_last : {X Y : Type 0} (f : X → Y) (last : Option X) (xs : List X) (k past : ℕ) → slice_get (option_to_list last) past ≡ slice_get xs k
     → k < length (map f xs) → (last ≡ slice_get xs k) × (is_some last ≡ true)
 some_last f None xs k past at within = absurd (none_missing f xs k at within)
@@ -60,7 +60,7 @@ pub last_told : (n : ℕ) (lines : List StepLine) (k : ℕ) (last : Option StepL
 last_told n lines k None text is says = cc
 last_told n lines k (Some told) text is says = line_told n lines k told text is.0 says
 
--- the same where it is put at the end of a text
+-- so, if it is appended to a text
 pub last_at_end : (last : Option StepLine) (size n : ℕ) (text bytes : List ℕ) → length text ≤ size
     → IfSome last (λ told. bytes ≡ numbered_line n (step_words told) ++ drop size text) → IfSome last (λ told. bytes ≡ numbered_line n (step_words told))
 last_at_end None size n text bytes short says = says

@@ -40,7 +40,7 @@ front_and_last start at last number digits text later within parts is =
     ∙ sym (append_assoc (drop start digits) (last ∷ []) later)
     ∙ ap (λ (bytes : List ℕ). bytes ++ later) (sym parts)
 
--- where no line of an answer is written
+-- an answer without a line
 pub no_line : (n : ℕ) (last : Option StepLine) (text : List ℕ) → is_some last ≡ false → length text ≤ 1024
     → drop 1024 text ≡ lines_of_step n (option_to_list last)
 no_line n None text none short = drop_all 1024 text short

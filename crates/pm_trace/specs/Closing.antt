@@ -1,5 +1,5 @@
--- The closing table, which follows the last step: each unit's value in the book, or the mode of a processor, and its kept
--- value.
+-- The closing table, which follows the last step: for each unit its value in the book, or the mode of a processor,
+-- and its kept value.
 use Rattle.std.specs.Prelude.{ℕ, ◌==◌, ◌&&◌, if◌then◌else◌, List, [], ◌∷◌, ◌++◌, map, codes}
 use Rattle.std.specs.List.{concat}
 use Rattle.pm_base.specs.declared.names.Unit.{Unit}
@@ -17,18 +17,18 @@ use Rattle.pm_trace.specs.declared.line.Word.{Word}
 use Rattle.pm_trace.specs.declared.line.Word.TheVariants as word
 use Rattle.pm_trace.specs.Line.{numbers, line_text}
 
--- what a node of a kind is called in the closing table
+-- the name of a node's kind in the closing table
 abbrev pub kind_name : Kind → Word
 kind_name (kind.Proc p) = word.Name (codes "proc")
 kind_name (kind.Power w) = word.Name (codes "power")
 kind_name _ = word.Name (codes "slave")
 
--- what a unit is called in the closing table, and its number
+-- the name of a unit's sort in the closing table, and its number
 abbrev pub unit_name : Topology → Unit → List Word
 unit_name t (Node node) = kind_name (kind_of t node) ∷ word.Number node.0 ∷ []
 unit_name t (Line reset) = word.Name (codes "line") ∷ word.Number reset.0 ∷ []
 
--- the closing line of a unit of which the book's column shows this, with this kept value: nothing where both are 0
+-- the closing line of a unit with these two numbers, by the book and kept; nothing if both are 0
 abbrev pub unit_line : Topology → Unit → ℕ → ℕ → List ℕ
 unit_line t unit book kept =
     if (book == 0) && (kept == 0) then []
@@ -38,7 +38,7 @@ unit_line t unit book kept =
 abbrev pub unit_text : State → Kept → Unit → List ℕ
 unit_text book kept unit = unit_line book.fixed.topology unit (shown unit book) (kept_value kept unit)
 
--- the closing lines of all units in order, where that of a unit which isn't shown is empty
+-- the closing lines of all units in order; that of a unit which isn't shown is empty
 abbrev pub closing_lines : State → Kept → List (List ℕ)
 closing_lines book kept = map (unit_text book kept) (units book)
 

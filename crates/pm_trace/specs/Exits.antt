@@ -1,4 +1,4 @@
--- What the exit of a command says of its fault and of the sink that it wrote to.
+-- The promises of a command's exit about its fault and its sink.
 use Rattle.std.specs.Prelude.{◌≡◌, ℕ, ◌⊎◌, [], ◌∷◌, Option, Some, None}
 use Rattle.std.specs.List.{concat}
 use Rattle.pm_base.specs.declared.errors.Exit.{Exit}
@@ -21,7 +21,7 @@ module _ {O : Type 0} (o : Sink.Ghosts O) where
   abbrev pub EndsBy : Exit → O → O → Exit → Type 0
   EndsBy due old new result = (result ≡ due) ⊎ ((result ≡ exit.WriteFault) × HasFailed (o.state old) (o.state new))
 
-  -- what each exit says where a report was written up to a cut
+  -- the promises of each exit, for a report that was written up to a cut
   pub record ExitSays (report : Report) (cut : Option ℕ) (old new : O) (result : Exit) : Type 0 where
     pub ends : EndsBy (exit_after report.fault) old new result
     pub done : result ≡ exit.Done → IsWhole report cut old new
@@ -30,16 +30,16 @@ module _ {O : Type 0} (o : Sink.Ghosts O) where
     pub memory : result ≡ exit.Memory → report.fault ≡ Some Memory
     pub failed : result ≡ exit.WriteFault → HasFailed (o.state old) (o.state new)
 
-  -- each exit of each report that was written up to a cut says so
+  -- they hold for each exit of each report that was written up to a cut
   abbrev pub ExitsSay : Type 0
   ExitsSay = (report : Report) (cut : Option ℕ) (old new : O) (result : Exit)
       → Leaves o (pieces report) cut old new → result ≡ exit_of report cut → ExitSays report cut old new result
 
-  -- the exit is the one that is due, unless memory is wanted or the sink fails
+  -- the exit is the due one, unless memory runs out or the sink fails
   abbrev pub EndsWith : Exit → O → O → Exit → Type 0
   EndsWith due old new result =
       (result ≡ due) ⊎ ((result ≡ exit.Memory) ⊎ ((result ≡ exit.WriteFault) × HasFailed (o.state old) (o.state new)))
 
-  -- nothing was written but the line of that fault, as far as the sink took it
+  -- nothing was written but the line of the fault Memory, as far as the sink took it
   abbrev pub IsStarved : O → O → Type 0
   IsStarved old new = (cut : Option ℕ) × Leaves o (fault_text Memory ∷ []) cut old new

@@ -1,4 +1,4 @@
--- The line that a command ends with where it fails, and the exit.
+-- The line with which a failed command ends, and its exit.
 use Rattle.std.specs.Prelude.{ℕ, List, [], ◌∷◌, Option, Some, None, codes}
 use Rattle.pm_base.specs.declared.errors.Exit.{Exit}
 use Rattle.pm_base.specs.declared.errors.Exit.TheVariants as exit
@@ -17,7 +17,7 @@ use Rattle.pm_trace.specs.declared.line.Word.{Word}
 use Rattle.pm_trace.specs.declared.line.Word.TheVariants as word
 use Rattle.pm_trace.specs.Line.{line_text}
 
--- the number of a cause for which a text has no reading
+-- the number of a cause for which a text can't be read
 abbrev pub text_cause : TextCause → ℕ
 text_cause texts.Form = 1
 text_cause texts.Place = 2
@@ -25,7 +25,7 @@ text_cause texts.Repeated = 3
 text_cause texts.Master = 4
 text_cause texts.Size = 5
 
--- the number of a cause for which the text of a topology has no meaning
+-- the number of a cause for which the text of a topology can't be read
 abbrev pub topology_text_cause : TopoTextCause → ℕ
 topology_text_cause topology_texts.Form = 1
 topology_text_cause topology_texts.Place = 2
@@ -44,7 +44,7 @@ topology_cause topologies.BadMember = 7
 topology_cause topologies.NoMaster = 8
 topology_cause topologies.Overlap = 9
 
--- the number of a cause for which a line has no meaning
+-- the number of a cause for which a script line can't be read
 abbrev pub line_cause : LineFault → ℕ
 line_cause lines.Unknown = 1
 line_cause lines.Number = 2
@@ -52,7 +52,7 @@ line_cause lines.Count = 3
 line_cause lines.Long = 4
 line_cause lines.NotAscii = 5
 
--- what a fault is called, with its place
+-- the name of a fault, and its place
 abbrev pub fault_words : Fault → List Word
 fault_words Usage = word.Name (codes "usage") ∷ []
 fault_words (Object fault) = word.Name (codes "object") ∷ word.Number (cause_number fault.cause) ∷ word.Number fault.offset ∷ []
@@ -72,7 +72,7 @@ fault_words Number = word.Name (codes "number") ∷ []
 abbrev pub fault_text : Fault → List ℕ
 fault_text fault = line_text (word.Name (codes "fault") ∷ fault_words fault)
 
--- the exit of a command that a fault stops
+-- the exit of a command that this fault stops
 abbrev pub exit_by : Fault → Exit
 exit_by Usage = exit.Usage
 exit_by (Object fault) = exit.BadObject
@@ -86,7 +86,7 @@ exit_by Size = exit.TooLarge
 exit_by Node = exit.BadText
 exit_by Number = exit.BadText
 
--- the exit of a command after all that it writes
+-- the exit of a command after all its text, by its fault, if it has one
 abbrev pub exit_after : Option Fault → Exit
 exit_after None = exit.Done
 exit_after (Some fault) = exit_by fault

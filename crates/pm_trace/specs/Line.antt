@@ -12,14 +12,14 @@ word_text (Address address) = decimal address
 word_text (Signed code) = signed_decimal code
 word_text (Name name) = name
 
--- how many bytes a word has at most: an address has 64 bits, and a number 32, with its sign where it may be negative
+-- the most bytes that a word has: an address has 64 bits, a number 32, and a signed one a sign
 abbrev pub width : Word → ℕ
 width (Address address) = 20
 width (Number n) = 10
 width (Signed code) = 11
 width (Name name) = length name
 
--- how many bytes these words have at most, each with a space before it
+-- the most bytes that these words have, each with a space before it
 abbrev pub widths : List Word → ℕ
 widths [] = 0
 widths (word ∷ words) = width word + 1 + widths words
@@ -32,7 +32,7 @@ numbers values = map Number values
 abbrev pub after_space : Word → List ℕ
 after_space word = 32 ∷ word_text word
 
--- words, each with the space before it, before what follows them
+-- words, each with a space before it, and then these bytes
 abbrev pub spaced : List Word → List ℕ → List ℕ
 spaced [] rest = rest
 spaced (word ∷ words) rest = after_space word ++ spaced words rest
@@ -41,6 +41,6 @@ spaced (word ∷ words) rest = after_space word ++ spaced words rest
 abbrev pub line_text : List Word → List ℕ
 line_text words = join_with_byte 32 (map word_text words) ++ 10 ∷ []
 
--- what contracts see of a line of output: its bytes
+-- contracts see the bytes of a line of output
 pub record LineBytes : Type 0 where
   pub items : List ℕ

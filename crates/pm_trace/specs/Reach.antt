@@ -11,14 +11,14 @@ use Rattle.pm_trace.specs.declared.line.Word.{Word}
 use Rattle.pm_trace.specs.declared.line.Word.TheVariants as word
 use Rattle.pm_trace.specs.Line.{line_text}
 
--- what a member is called
+-- the name of a member's kind
 abbrev pub kind_word : MemberKind → Word
 kind_word members.Master = word.Name (codes "master")
 kind_word members.Slave = word.Name (codes "slave")
 kind_word members.Power = word.Name (codes "power")
 kind_word members.Line = word.Name (codes "line")
 
--- what the reason of a member is called
+-- the name of a member's reason
 abbrev pub why_word : Why → Word
 why_word why.Myself = word.Name (codes "self")
 why_word why.Suspend = word.Name (codes "suspend")

@@ -1,4 +1,4 @@
--- A command that takes a named script: what it was asked for, where the script stops, and the exit.
+-- A command with a named script: its job, the end of the script, and the exit.
 use Rattle.std.specs.Prelude.{◌≡◌, ℕ, ◌+◌, ◌⊎◌, List, [], ◌∷◌, length, false, Option, Some, None, Result, Ok, Err, OnErr}
 use Rattle.pm_base.specs.declared.errors.Exit.{Exit}
 use Rattle.pm_base.specs.declared.errors.Exit.TheVariants.{ReadFault}
@@ -13,13 +13,13 @@ use Rattle.pm_trace.specs.declared.faults.Fault.{Fault}
 use Rattle.pm_trace.specs.declared.faults.Fault.TheVariants.{Line, Memory, Read, Size}
 use Rattle.pm_trace.specs.Faults.{exit_after}
 
--- a script that can't be begun is refused
+-- a script that can't be opened is refused
 abbrev pub script_or_fault : Option Script → Result Script Fault
 script_or_fault None = Err Read
 script_or_fault (Some s) = Ok s
 
--- why no line of a script follows the one before number n: it came to its end, or the fault of the line, past the limit, or
--- where the script can't be read on
+-- the reason why no line follows the one before number n: none at the script's end; the fault of the line; the limit;
+-- or a failed read
 abbrev pub fault_at : ℕ → Stop → Option Fault
 fault_at n End = None
 fault_at n (Bad cause) = Some (Line n cause)
@@ -35,22 +35,22 @@ script_fault (Err fault) = Some fault
 abbrev pub script_exit : Result Script Fault → Exit
 script_exit job = exit_after (script_fault job)
 
--- a last piece is written where the script came to its end
+-- a last piece is written if the script came to its end
 abbrev pub at_end : Stop → List ℕ → List (List ℕ)
 at_end End piece = piece ∷ []
 at_end (Bad cause) piece = []
 at_end Past piece = []
 at_end Failed piece = []
 
--- ---- which calls are made
+-- ---- the calls that are made
 
--- a name that a script is read under
+-- the name of a script, with the limit of its size
 abbrev pub script_named : List ℕ → Named
 script_named name = named name script_limit
 
--- the calls after a script was begun under a number, by the exit: all of it is read; or up to a read that failed; or up
--- to somewhere, if a line has no meaning; or either of these, if the sink breaks off or memory is wanted, since what comes
--- after its first lines is read before they are run
+-- the calls after a script was opened under a number, by the exit. All of it is read; or up to a failed read; or up
+-- to some point, if a line can't be read. If the sink breaks off or memory runs out it is one of the last two, since
+-- bytes behind the first lines are read before these are run
 abbrev pub ReadsBegun : Exit → ℕ → List Call → Type 0
 ReadsBegun exit.Done id calls = GoesOn id (script_limit + 1) false calls
 ReadsBegun exit.TooLarge id calls = GoesOn id (script_limit + 1) false calls
@@ -62,16 +62,16 @@ ReadsBegun exit.Usage id calls = ⊥
 ReadsBegun exit.BadObject id calls = ⊥
 ReadsBegun exit.BadText id calls = ⊥
 
--- a name was begun, and read up to somewhere
+-- a name was opened, and read up to some point
 abbrev pub IsBegun : Named → List Call → Type 0
 IsBegun n calls = ReadsOn (n ∷ []) calls × (begun calls ≡ n.name ∷ [])
 
--- the same, or up to a read that failed
+-- a name was opened, and read up to some point or up to a failed read
 abbrev pub BreaksOff : Named → List Call → Type 0
 BreaksOff n calls = IsBegun n calls ⊎ ReadsToFault (n ∷ []) calls
 
--- the calls of a reading of a named script, by the exit: it is read whole; or up to a call that failed; or begun, and read
--- up to somewhere; or either of these, if the sink breaks off or memory is wanted, unless memory was wanted before
+-- the calls of the reading of a named script, by the exit: it is read whole, or up to a failed call, or up to some
+-- point. If the sink breaks off or memory runs out it is one of the last two, or none if memory ran out before
 abbrev pub ReadsScript : Exit → Named → List Call → Type 0
 ReadsScript exit.Done n calls = ReadsEach (n ∷ []) calls
 ReadsScript exit.TooLarge n calls = ReadsEach (n ∷ []) calls
@@ -84,7 +84,7 @@ ReadsScript exit.BadObject n calls = ⊥
 ReadsScript exit.BadText n calls = ⊥
 
 module _ {I : Type 0} (i : Inputs.Ghosts I) where
-  -- the script is the one that is read under the name, unless memory is wanted. On ReadFault the count of faults rose
+  -- the script is the one under the name, unless memory runs out; with ReadFault the count of faults rose
   pub record IsScriptOf (name : List ℕ) (old new : I) (exit : Exit) (job : Result Script Fault) : Type 0 where
     pub shown : i.observable → (job ≡ Err Memory) ⊎ (job ≡ script_or_fault (script_in (i.state old) name))
     pub failed : exit ≡ ReadFault → Rose (i.state old).faults (i.state new).faults

@@ -1,4 +1,4 @@
-//! The closing table, which follows the last step.
+//! The lines of the closing table, which follows the last step.
 
 ghost use Rattle.std.specs.Prelude.{◌≡◌, ◌<◌, ◌≤◌, ◌↔◌, ◌∷◌, [], Some, IsTrue, length, slice_get};
 ghost use Rattle.std.specs.Bool.{OnFalse};
@@ -14,9 +14,9 @@ use pm_base::Unit;
 use pm_core::Book;
 use pm_topology::{Kind, Topology};
 
-/// Leaves in `line` the closing line of the `k`-th unit of the book, counted from 0, with its value, or
-/// the mode of a processor, and then `kept`, the value that the device took last for it, and a line feed; answers whether there
-/// is one. A unit isn't shown where both are 0, and then `line` is empty.
+/// Writes into `line` the closing line of the `k`-th unit of the book, counted from 0, with its line feed. It has the
+/// unit's value, or the mode of a processor, and then `kept`, the value that the device took last. If both are 0 the
+/// unit isn't shown: `line` is empty and the result is false.
 pub fn closing(book: &Book, k: usize, kept: u32, line: &mut TextLine) -> bool
     requires place { k < length (units book.now) }
     ensures text { (unit : Unit) → slice_get (units book.now) k ≡ Some unit →
@@ -29,7 +29,8 @@ pub fn closing(book: &Book, k: usize, kept: u32, line: &mut TextLine) -> bool
     write_unit(book.topology(), unit, book.shown(unit), kept, line)
 }
 
-/// Leaves in `line` the closing line of a unit of which this is shown, if it has one.
+/// Writes into `line` the closing line of a unit with these two numbers. If both are 0 `line` is empty and the result
+/// is false.
 fn write_unit(t: &Topology, unit: Unit, value: u32, kept: u32, line: &mut TextLine) -> bool
     ensures text { line.new.items ≡ unit_line t.now unit value kept }
     ensures shown { IsTrue result ↔ ((value ≡ 0) × (kept ≡ 0) → ⊥) }
@@ -53,7 +54,7 @@ fn write_unit(t: &Topology, unit: Unit, value: u32, kept: u32, line: &mut TextLi
     true
 }
 
-/// What a unit is called in a line of output, and its number.
+/// The name of a unit's sort in a line of output (`proc`, `slave`, `power` or `line`), and its number.
 pub fn unit_name(t: &Topology, unit: Unit) -> (Word, u32)
     ensures words { unit_name t.now unit ≡ result.0 ∷ word.Number result.1 ∷ [] }
     ensures short { width result.0 ≤ 5 }
@@ -64,7 +65,7 @@ pub fn unit_name(t: &Topology, unit: Unit) -> (Word, u32)
     }
 }
 
-/// What a node of a kind is called.
+/// The name of a node's kind in a line of output; `slave` for an unknown node.
 fn kind_name(kind: Kind) -> Word
     ensures name { result ≡ kind_name kind }
     ensures short { width result ≤ 5 }
@@ -76,7 +77,7 @@ fn kind_name(kind: Kind) -> Word
     }
 }
 
-/// Leaves in `line` the closing line of a clock that runs: its number, its divider and the index of its parent.
+/// Writes into `line` the closing line of a clock that runs: its number, its divider and the index of its parent.
 pub fn clock_closing(number: u32, divider: u32, index: u32, line: &mut TextLine)
     ensures { line.new.items ≡ clock_end_line number divider index }
 {

@@ -1,4 +1,4 @@
-//! The line that a command ends with where it fails, and the exit.
+//! The line with which a failed command ends, and its exit.
 
 ghost use Rattle.std.specs.Prelude.{◌≡◌, ◌≤◌, ◌∷◌, [], codes, length};
 ghost use Rattle.pm_trace.specs.declared.line.Word.TheVariants as word;
@@ -13,22 +13,22 @@ use pm_script::LineFault;
 use pm_topofile::{TopoTextCause, TopoTextFault};
 use pm_topology::{TopoCause, TopoFault};
 
-/// Why a command failed, as its last line says it.
+/// The reason why a command failed, as its last line has it.
 #[derive(Clone, Copy, Debug, PartialEq, Eq)]
 pub enum Fault {
-    /// The words of the command line have no form.
+    /// The words of the command line fit no form.
     Usage,
-    /// The object has no reading: its first fault.
+    /// The object can't be read: its first fault.
     Object(ObjectFault),
-    /// The text of an object has no reading: its first bad line.
+    /// The text of an object can't be read: its first bad line.
     Text(TextFault),
-    /// The text of a topology has no meaning: its first bad line.
+    /// The text of a topology can't be read: its first bad line.
     TopologyText(TopoTextFault),
     /// A topology breaks a rule: its first fault.
     Topology(TopoFault),
-    /// The script line of this number, counted from 1, has no meaning: its first fault.
+    /// A script line can't be read: its number, counted from 1, and its first fault.
     Line(u32, LineFault),
-    /// An input could not be begun or read.
+    /// An input couldn't be opened or read.
     Read,
     /// There was not enough memory.
     Memory,
@@ -36,11 +36,11 @@ pub enum Fault {
     Size,
     /// A word names no master of the object.
     Node,
-    /// A word is no number of lines that a script is made with.
+    /// A word isn't a number of lines for a generated script.
     Number,
 }
 
-/// Leaves in `line` the line of a fault with its line feed.
+/// Writes into `line` the line of a fault, with its line feed.
 pub fn write_fault(fault: Fault, line: &mut TextLine)
     ensures { line.new.items ≡ fault_text fault }
 {
@@ -69,7 +69,7 @@ pub fn write_fault(fault: Fault, line: &mut TextLine)
     }
 }
 
-/// Leaves in `line` the line of a fault that has a name alone.
+/// Writes into `line` the line of a fault that has only a name, of at most 8 bytes.
 fn write_named(kind: &'static [u8], line: &mut TextLine)
     requires short { length kind.now ≤ 8 }
     ensures { line.new.items ≡ line_text (word.Name (codes "fault") ∷ word.Name kind.now ∷ []) }
@@ -77,7 +77,7 @@ fn write_named(kind: &'static [u8], line: &mut TextLine)
     write_line(line, name(b"fault"), &[name(kind)]);
 }
 
-/// Leaves in `line` the line of a fault that has a name and two numbers.
+/// Writes into `line` the line of a fault that has a name, of at most 8 bytes, and two numbers.
 fn write_placed(kind: &'static [u8], first: u32, second: u32, line: &mut TextLine)
     requires short { length kind.now ≤ 8 }
     ensures { line.new.items
@@ -90,35 +90,35 @@ fn write_placed(kind: &'static [u8], first: u32, second: u32, line: &mut TextLin
     );
 }
 
-/// The number of a cause for which a text has no reading.
+/// The number of a cause in the line of a fault of an object's text.
 fn text_cause(cause: TextCause) -> u32
     ensures { result ≡ text_cause cause }
 {
     cause as u32
 }
 
-/// The number of a cause for which the text of a topology has no meaning.
+/// The number of a cause in the line of a fault of a topology's text.
 fn topology_text_cause(cause: TopoTextCause) -> u32
     ensures { result ≡ topology_text_cause cause }
 {
     cause as u32
 }
 
-/// The number of a rule that a topology breaks.
+/// The number of a broken rule in the line of a topology's fault.
 fn topology_cause(cause: TopoCause) -> u32
     ensures { result ≡ topology_cause cause }
 {
     cause as u32
 }
 
-/// The number of a cause for which a line has no meaning.
+/// The number of a cause in the line of a script line's fault.
 fn line_cause(cause: LineFault) -> u32
     ensures { result ≡ line_cause cause }
 {
     cause as u32
 }
 
-/// The exit of a command that a fault stops.
+/// The exit of a command that this fault stops.
 pub fn exit(fault: Fault) -> Exit
     ensures { result ≡ exit_by fault }
 {

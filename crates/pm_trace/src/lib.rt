@@ -1,5 +1,4 @@
-//! The lines of output: those of a step, the closing table, a reach, the line of a fault, and how a command
-//! ends.
+//! The lines of output: those of a step, of the closing table, of a reach and of a fault; and the exits of commands.
 #![tactic(auto)]
 
 pub mod closing_table;

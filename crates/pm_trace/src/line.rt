@@ -1,4 +1,5 @@
-//! A line of output, made of words.
+//! A line of output, made of words. It is written from its end to its front, since a number's last digit is found
+//! first.
 
 ghost use Rattle.std.specs.Prelude.{◌≡◌, ◌+◌, ◌<◌, ◌≤◌, ◌++◌, ◌∷◌, [], length, drop, decimal};
 ghost use Rattle.pm_trace.specs.declared.line.Word.TheVariants as word;
@@ -32,7 +33,7 @@ impl Model for TextLine {
 }
 
 impl TextLine {
-    /// A line without bytes.
+    /// An empty line.
     pub fn new() -> TextLine
         ensures { result.items ≡ [] }
     {
@@ -42,7 +43,7 @@ impl TextLine {
         }
     }
 
-    /// Its bytes.
+    /// The bytes of the line, at most 128.
     pub fn as_slice(&self) -> &[u8]
         ensures value { result.now ≡ self.now.items }
         ensures fits { length result.now ≤ 128 }
@@ -50,7 +51,7 @@ impl TextLine {
         &self.text[self.start..]
     }
 
-    /// Takes all bytes out of it.
+    /// Empties the line.
     pub fn clear(&mut self)
         ensures { self.new.items ≡ [] }
     {
@@ -58,7 +59,7 @@ impl TextLine {
     }
 }
 
-/// A text that the program itself holds. In a contract it is its bytes.
+/// A text that is part of the program. Contracts see its bytes.
 #[derive(Drop)]
 pub struct StaticText(&'static [u8]);
 
@@ -71,7 +72,7 @@ impl Model for StaticText {
 }
 
 impl StaticText {
-    /// Its bytes.
+    /// The bytes of the text.
     fn bytes(&self) -> &'static [u8]
         ensures { result.now ≡ self.now }
     {
@@ -88,14 +89,15 @@ pub enum Word {
     Name(StaticText),
 }
 
-/// A name as a word of a line.
+/// A name as a word.
 pub fn name(text: &'static [u8]) -> Word
     ensures { result ≡ word.Name text.now }
 {
     Word::Name(StaticText(text))
 }
 
-/// Leaves a line of these words, with one space between them and a line feed at the end.
+/// Writes into `line` these words, with one space between them and a line feed at the end. With it they have at most
+/// 128 bytes.
 #[tactic(auto, using(crate::proofs::LineLemmas::line_is))]
 pub fn write_line(line: &mut TextLine, first: Word, rest: &[Word])
     requires room { widths (first ∷ rest.now) ≤ 127 }
@@ -105,7 +107,8 @@ pub fn write_line(line: &mut TextLine, first: Word, rest: &[Word])
     line.start = put_word(&mut line.text, at, &first);
 }
 
-/// Puts words, each with a space before it, before the line feed at the end of a line. Answers where they begin.
+/// Writes words, each with a space before it, and the line feed at the very end of a line. Returns the index of the
+/// first space.
 fn put_words(text: &mut [u8; 128], words: &[Word]) -> usize
     requires room { widths words.now ≤ 127 }
     ensures room { 127 ≤ result + widths words.now }
@@ -122,7 +125,7 @@ fn put_words(text: &mut [u8; 128], words: &[Word]) -> usize
     }
 }
 
-/// Puts a word before what stands from `at` on. Answers where it begins.
+/// Writes a word so that it ends before `text[at]`. Returns the index of its first byte.
 fn put_word(text: &mut [u8; 128], at: usize, word: &Word) -> usize
     requires room { width word.now ≤ at }
     requires within { at ≤ 128 }
@@ -134,7 +137,7 @@ fn put_word(text: &mut [u8; 128], at: usize, word: &Word) -> usize
     put_text(text, at, text_of(word, &mut buffer))
 }
 
-/// Puts bytes before what stands from `at` on. Answers where they begin.
+/// Writes bytes so that they end before `text[at]`. Returns the index of the first one.
 #[inline(always)]
 fn put_text(text: &mut [u8], at: usize, bytes: &[u8]) -> usize
     requires room { length bytes.now ≤ at }
@@ -147,7 +150,7 @@ fn put_text(text: &mut [u8], at: usize, bytes: &[u8]) -> usize
     from
 }
 
-/// Puts the line feed at the end of a line. Answers where it stands.
+/// Writes the line feed at the very end of a line. Returns its index.
 pub(crate) fn put_feed(text: &mut [u8; 128]) -> usize
     ensures at { result ≡ 127 }
     ensures text { drop result text.new ≡ 10 ∷ [] }
@@ -156,7 +159,7 @@ pub(crate) fn put_feed(text: &mut [u8; 128]) -> usize
     127
 }
 
-/// Puts a byte before what stands from `at` on. Answers where it stands.
+/// Writes a byte before `text[at]`. Returns its index.
 #[inline(always)]
 pub(crate) fn put_byte(text: &mut [u8], at: usize, byte: u8) -> usize
     requires room { 1 ≤ at }
@@ -168,7 +171,7 @@ pub(crate) fn put_byte(text: &mut [u8], at: usize, byte: u8) -> usize
     at - 1
 }
 
-/// Puts a space before what stands from `at` on. Answers where it stands.
+/// Writes a space before `text[at]`. Returns its index.
 #[inline(always)]
 fn put_space(text: &mut [u8], at: usize) -> usize
     requires room { 1 ≤ at }
@@ -179,7 +182,7 @@ fn put_space(text: &mut [u8], at: usize) -> usize
     put_byte(text, at, b' ')
 }
 
-/// Puts a number, with a space before it, before what stands from `at` on. Answers where the space stands.
+/// Writes a space and a number so that they end before `text[at]`. Returns the index of the space.
 #[inline(always)]
 pub(crate) fn put_number(text: &mut [u8], at: usize, n: u32) -> usize
     requires room { 11 ≤ at }
@@ -192,7 +195,7 @@ pub(crate) fn put_number(text: &mut [u8], at: usize, n: u32) -> usize
     put_space(text, at)
 }
 
-/// Puts an address, with a space before it, before what stands from `at` on. Answers where the space stands.
+/// Writes a space and an address so that they end before `text[at]`. Returns the index of the space.
 pub(crate) fn put_address(text: &mut [u8], at: usize, address: u64) -> usize
     requires room { 21 ≤ at }
     requires within { at ≤ length text.old }
@@ -204,7 +207,7 @@ pub(crate) fn put_address(text: &mut [u8], at: usize, address: u64) -> usize
     put_space(text, at)
 }
 
-/// Puts the digits of a number before what stands from `at` on. Answers where they begin.
+/// Writes the digits of a number so that they end before `text[at]`. Returns the index of the first one.
 #[inline(always)]
 pub(crate) fn put_digits(text: &mut [u8], at: usize, n: u32) -> usize
     requires room { 10 ≤ at }
@@ -222,7 +225,7 @@ pub(crate) fn put_digits(text: &mut [u8], at: usize, n: u32) -> usize
     }
 }
 
-/// Puts the digits of a number of two.
+/// As `put_digits`, for a number of two digits.
 #[inline(always)]
 fn put_pair(text: &mut [u8], at: usize, n: u32) -> usize
     requires from { 10 ≤ n }
@@ -237,7 +240,7 @@ fn put_pair(text: &mut [u8], at: usize, n: u32) -> usize
     put_byte(text, at, PAIRS[pair])
 }
 
-/// Puts the digits of a number of three or more.
+/// As `put_digits`, for a number of three digits or more.
 #[inline(never)]
 fn put_many(text: &mut [u8], at: usize, n: u32) -> usize
     requires room { 10 ≤ at }
@@ -249,7 +252,7 @@ fn put_many(text: &mut [u8], at: usize, n: u32) -> usize
     write_digits(n as u64, text, at)
 }
 
-/// Puts a name before what stands from `at` on. Answers where it begins.
+/// Writes a name so that it ends before `text[at]`. Returns the index of its first byte.
 #[inline(always)]
 pub(crate) fn put_name<const N: usize>(text: &mut [u8], at: usize, name: &[u8; N]) -> usize
     requires room { N ≤ at }
@@ -266,7 +269,7 @@ pub(crate) fn put_name<const N: usize>(text: &mut [u8], at: usize, name: &[u8; N
     from
 }
 
-/// The bytes of a word. The buffer holds those of a number.
+/// The bytes of a word. A number's digits are written into `buffer`.
 pub(crate) fn text_of<'a>(word: &Word, buffer: &'a mut Buffer) -> &'a [u8]
     ensures text { result.now ≡ word_text word.now }
     ensures short { length result.now ≤ width word.now }

@@ -16,7 +16,7 @@ use std::alloc::Global;
 ///
 /// # Errors
 ///
-/// `NoMemory` where there is not enough memory.
+/// `NoMemory` if there is not enough memory.
 pub fn reach_text(alloc: Global, reach: &Reach) -> Result<Vec<u8>, NoMemory>
     ensures { IfOk result (λ text. text.items ≡ reach_text reach.now.members) }
 {
@@ -27,7 +27,7 @@ pub fn reach_text(alloc: Global, reach: &Reach) -> Result<Vec<u8>, NoMemory>
     Ok(text)
 }
 
-/// Puts the line of a member at the end of a text.
+/// Appends the line of a member of a reach to a text.
 fn put_member(text: &mut Vec<u8>, member: &Member) -> Result<(), NoMemory>
     ensures { OnOk result (text.new.items ≡ text.old.items ++ member_text member.now) }
 {
@@ -38,7 +38,7 @@ fn put_member(text: &mut Vec<u8>, member: &Member) -> Result<(), NoMemory>
     put(text, b"\n")
 }
 
-/// What a member is called.
+/// The name of a member's kind in its line.
 fn kind_word(kind: MemberKind) -> Word
     ensures { result ≡ kind_word kind }
 {
@@ -50,7 +50,7 @@ fn kind_word(kind: MemberKind) -> Word
     }
 }
 
-/// What the reason of a member is called.
+/// The name of a member's reason in its line.
 fn why_word(why: Why) -> Word
     ensures { result ≡ why_word why }
 {
@@ -67,7 +67,7 @@ fn why_word(why: Why) -> Word
     }
 }
 
-/// Puts the numbers of the masters of a path at the end, each after a space.
+/// Appends the numbers of the masters of a path to a text, each after a space.
 fn put_path(text: &mut Vec<u8>, path: &[NodeId]) -> Result<(), NoMemory>
     ensures { OnOk result (text.new.items ≡ text.old.items ++ flat_map after_space (path_words path.now)) }
 {
@@ -77,7 +77,7 @@ fn put_path(text: &mut Vec<u8>, path: &[NodeId]) -> Result<(), NoMemory>
     Ok(())
 }
 
-/// Puts a word at the end, after a space.
+/// Appends a space and a word to a text.
 fn put_spaced(text: &mut Vec<u8>, word: Word) -> Result<(), NoMemory>
     ensures { OnOk result (text.new.items ≡ text.old.items ++ after_space word) }
 {
@@ -85,7 +85,7 @@ fn put_spaced(text: &mut Vec<u8>, word: Word) -> Result<(), NoMemory>
     put_word(text, word)
 }
 
-/// Puts a word at the end.
+/// Appends a word to a text.
 fn put_word(text: &mut Vec<u8>, word: Word) -> Result<(), NoMemory>
     ensures { OnOk result (text.new.items ≡ text.old.items ++ word_text word) }
 {
@@ -93,7 +93,7 @@ fn put_word(text: &mut Vec<u8>, word: Word) -> Result<(), NoMemory>
     put(text, text_of(&word, &mut buffer))
 }
 
-/// Puts bytes at the end.
+/// Appends bytes to a text.
 fn put(text: &mut Vec<u8>, bytes: &[u8]) -> Result<(), NoMemory>
     ensures { OnOk result (text.new.items ≡ text.old.items ++ bytes.now) }
 {

@@ -1,4 +1,4 @@
-//! How a command that is refused ends.
+//! The end of a command that is refused.
 
 ghost use Rattle.pm_trace.specs.Report.{Reports, refusal};
 
@@ -7,8 +7,8 @@ use crate::line::TextLine;
 use pm_base::Exit;
 use pm_io::{Sink, write_all};
 
-/// Writes the line of a fault that stops a command, and answers the exit. The line is tried once:
-/// where the sink fails on it, the exit stays.
+/// Writes the line of the fault that stops a command, and returns its exit. The line is tried once; if the sink fails
+/// on it the exit stays.
 pub fn refuse<O: Sink>(fault: Fault, out: &mut O) -> Exit
     ensures { Reports O.Sink (refusal fault) out.old out.new result }
 {

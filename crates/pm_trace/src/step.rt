@@ -14,22 +14,22 @@ use pm_ipi::callbacks::ACKNOWLEDGE;
 /// The most bytes of a line of a core step: ten digits, 80 of its words, and the line feed.
 pub(crate) const LINE: usize = 91;
 
-/// What one line of a core step tells. Contracts speak of lines by it.
+/// One line of a core step, before it is text. Contracts speak of lines by it.
 #[derive(Clone, Copy, Debug, PartialEq, Eq)]
 pub enum StepLine {
-    /// A command was issued, with this answer of the device.
+    /// A command was given to the device, with the device's answer.
     Command(Done),
-    /// A processor starts.
+    /// A processor starts at an address.
     Start(Start),
-    /// A master is answered, at once or later.
+    /// A master gets a reply, at once or late.
     Reply(NodeId, Response),
     /// The message of a master is dropped.
     Drop(NodeId),
-    /// A master is called back, or its message acknowledged.
+    /// A master is called back, or its message is acknowledged.
     Call(Callback),
 }
 
-/// The number of lines of a core step that is answered so.
+/// The number of lines of a core step with this outbox and this answer.
 pub fn entries(out: &Outbox, answer: &Answer) -> usize
     ensures { result ≡ length (output_words out.now.done.items (notices_in out.now) answer.now) }
 {
@@ -40,8 +40,8 @@ pub fn entries(out: &Outbox, answer: &Answer) -> usize
         + usize::from(is_told(answer))
 }
 
-/// Leaves in `line` the `k`-th line, counted from 0, of a core step of script line `n` that is answered so, with its line
-/// feed.
+/// Writes into `line` the `k`-th line, counted from 0, of a core step of script line `n` with this outbox and this
+/// answer, with its line feed.
 pub fn entry(n: u32, out: &Outbox, answer: &Answer, k: usize, line: &mut TextLine)
     requires place { k < length (output_words out.now.done.items (notices_in out.now) answer.now) }
     ensures { slice_get (core_lines n out.now.done.items (notices_in out.now) answer.now) k ≡ Some line.new.items }
@@ -49,14 +49,15 @@ pub fn entry(n: u32, out: &Outbox, answer: &Answer, k: usize, line: &mut TextLin
     line.start = put_entry(&mut line.text, n, out, answer, k);
 }
 
-/// Leaves in `line` the line of a command that was issued in a core step of script line `n`, with its line feed.
+/// Writes into `line` the line of a command that was given in script line `n`, with its line feed.
 pub fn command_entry(n: u32, done: &Done, line: &mut TextLine)
     ensures { line.new.items ≡ numbered_line n (step_words (told.Command done.now)) }
 {
     line.start = put_command(&mut line.text, 128, n, done);
 }
 
-/// Leaves in `line` the line of an answer of which one is written, to a core step of script line `n`, with its line feed.
+/// Writes into `line` the line of an answer in script line `n`, with its line feed. The answer has to have one
+/// (`is_told`).
 pub fn answer_entry(n: u32, answer: &Answer, line: &mut TextLine)
     requires { IsTrue (is_some (answer_line answer.now)) }
     ensures { IfSome (answer_line answer.now) (λ told. line.new.items ≡ numbered_line n (step_words told)) }
@@ -64,7 +65,7 @@ pub fn answer_entry(n: u32, answer: &Answer, line: &mut TextLine)
     line.start = put_answer(&mut line.text, 128, n, answer);
 }
 
-/// Puts the `k`-th line of a core step at the end of a text. Answers where it begins.
+/// Writes the `k`-th line of a core step at the very end of a text. Returns the index of its first byte.
 fn put_entry(text: &mut [u8; 128], n: u32, out: &Outbox, answer: &Answer, k: usize) -> usize
     requires place { k < length (output_words out.now.done.items (notices_in out.now) answer.now) }
     ensures within { result ≤ 128 }
@@ -89,7 +90,7 @@ fn put_entry(text: &mut [u8; 128], n: u32, out: &Outbox, answer: &Answer, k: usi
     }
 }
 
-/// The element at a place, or else how far the place is past the last one.
+/// The element at index `k`, or else by how much `k` exceeds the last index: 0 right after it.
 fn at<T>(items: &[T], k: usize) -> Result<&T, usize>
     ensures { MatchResult result (λ item. slice_get items.now k ≡ Some item.now) (λ past. (slice_get items.now k ≡ None)
         × (past ≡ k - length items.now)) }
@@ -100,14 +101,15 @@ fn at<T>(items: &[T], k: usize) -> Result<&T, usize>
     }
 }
 
-/// Whether a line is written of an answer.
+/// Whether an answer has a line.
 pub fn is_told(answer: &Answer) -> bool
     ensures { result ≡ is_some (answer_line answer.now) }
 {
     !matches!(answer, Answer::Silent | Answer::Ack { shown: false, .. })
 }
 
-/// Puts the line of an answer of which one is written before what stands from `at` on. Answers where it begins.
+/// Writes the line of an answer so that it ends before `text[at]`. The answer has to have one. Returns the index of
+/// its first byte.
 #[inline(never)]
 #[tactic(auto, using(crate::proofs::LineLemmas::line_before))]
 pub(crate) fn put_answer(text: &mut [u8], at: usize, n: u32, answer: &Answer) -> usize
@@ -124,7 +126,7 @@ pub(crate) fn put_answer(text: &mut [u8], at: usize, n: u32, answer: &Answer) ->
     put_digits(text, at, n)
 }
 
-/// Puts the line of a processor that starts before what stands from `at` on. Answers where it begins.
+/// Writes the line of a processor that starts so that it ends before `text[at]`. Returns the index of its first byte.
 #[inline(never)]
 #[tactic(auto, using(crate::proofs::LineLemmas::line_before))]
 pub(crate) fn put_start(text: &mut [u8], at: usize, n: u32, start: &Start) -> usize
@@ -139,7 +141,8 @@ pub(crate) fn put_start(text: &mut [u8], at: usize, n: u32, start: &Start) -> us
     put_digits(text, at, n)
 }
 
-/// Puts the line of a late reply, which tells its status alone, before what stands from `at` on. Answers where it begins.
+/// Writes the line of a late reply, which has only a status, so that it ends before `text[at]`. Returns the index of
+/// its first byte.
 #[tactic(auto, using(crate::proofs::LineLemmas::line_before))]
 fn put_late(text: &mut [u8], at: usize, n: u32, late: &Late) -> usize
     requires room { LINE ≤ at }
@@ -156,7 +159,7 @@ fn put_late(text: &mut [u8], at: usize, n: u32, late: &Late) -> usize
     put_digits(text, at, n)
 }
 
-/// Puts the line of a command that was issued before what stands from `at` on. Answers where it begins.
+/// Writes the line of a command so that it ends before `text[at]`. Returns the index of its first byte.
 #[tactic(auto, using(crate::proofs::LineLemmas::line_before))]
 fn put_command(text: &mut [u8], at: usize, n: u32, done: &Done) -> usize
     requires room { LINE ≤ at }
@@ -169,7 +172,7 @@ fn put_command(text: &mut [u8], at: usize, n: u32, done: &Done) -> usize
     put_digits(text, at, n)
 }
 
-/// Puts the line of a callback before what stands from `at` on. Answers where it begins.
+/// Writes the line of a callback so that it ends before `text[at]`. Returns the index of its first byte.
 #[tactic(auto, using(crate::proofs::LineLemmas::line_before))]
 fn put_call(text: &mut [u8], at: usize, n: u32, call: &Callback) -> usize
     requires room { LINE ≤ at }
@@ -182,8 +185,8 @@ fn put_call(text: &mut [u8], at: usize, n: u32, call: &Callback) -> usize
     put_digits(text, at, n)
 }
 
-/// Puts the words of an answer of which a line is written before what stands from `at` on, each with a space before it.
-/// Answers where they begin.
+/// Writes the words of an answer that has a line, each with a space before it, so that they end before `text[at]`.
+/// Returns the index of the first space.
 fn answer_words(text: &mut [u8], at: usize, answer: &Answer) -> usize
     requires told { IsTrue (is_some (answer_line answer.now)) }
     requires room { 80 ≤ at }
@@ -213,8 +216,8 @@ fn answer_words(text: &mut [u8], at: usize, answer: &Answer) -> usize
     }
 }
 
-/// Puts the words of a processor that starts before what stands from `at` on, each with a space before it. Answers
-/// where they begin.
+/// Writes the words of a start, each with a space before it, so that they end before `text[at]`. Returns the index of
+/// the first space.
 fn start_words(text: &mut [u8], at: usize, start: &Start) -> usize
     requires room { 80 ≤ at }
     requires within { at ≤ length text.old }
@@ -227,8 +230,8 @@ fn start_words(text: &mut [u8], at: usize, start: &Start) -> usize
     put_name(text, at, b" run")
 }
 
-/// Writes the rest of a command's line, behind the number of its step, so that it ends before `text[at]` with its line feed.
-/// Answers where it begins.
+/// Writes a command's words, each with a space before it, and a line feed, so that they end before `text[at]`.
+/// Returns the index of the first space. Only the number of the script line is left to write.
 #[inline(always)]
 pub(crate) fn rest_of_command(text: &mut [u8], at: usize, done: &Done) -> usize
     requires room { LINE ≤ at }
@@ -243,8 +246,8 @@ pub(crate) fn rest_of_command(text: &mut [u8], at: usize, done: &Done) -> usize
     put_unit(text, at, done.command.unit, done.ok)
 }
 
-/// Puts what a command is called, by its unit and whether the device took it, and the number of the unit, before what
-/// stands from `at` on. Answers where it begins.
+/// Writes a space and the name of a command, by its unit's sort and whether it succeeded, and the unit's number, so
+/// that they end before `text[at]`. Returns the index of the first space.
 #[inline(always)]
 fn put_unit(text: &mut [u8], at: usize, unit: Unit, ok: bool) -> usize
     requires room { 20 ≤ at }
@@ -261,7 +264,8 @@ fn put_unit(text: &mut [u8], at: usize, unit: Unit, ok: bool) -> usize
     }
 }
 
-/// Puts a name and a number before what stands from `at` on. Answers where the name begins.
+/// Writes a name, a space and a number so that they end before `text[at]`. Returns the index of the name's first
+/// byte.
 #[inline(always)]
 fn put_named<const N: usize>(text: &mut [u8], at: usize, name: &[u8; N], number: u32) -> usize
     requires short { N ≤ 9 }
@@ -275,7 +279,8 @@ fn put_named<const N: usize>(text: &mut [u8], at: usize, name: &[u8; N], number:
     put_name(text, at, name)
 }
 
-/// Puts the words of a reply before what stands from `at` on, each with a space before it. Answers where they begin.
+/// Writes the words of a reply, each with a space before it, so that they end before `text[at]`. Returns the index of
+/// the first space.
 #[inline(always)]
 pub(crate) fn reply_words(text: &mut [u8], at: usize, master: NodeId, response: &Response) -> usize
     requires room { 80 ≤ at }
@@ -290,8 +295,8 @@ pub(crate) fn reply_words(text: &mut [u8], at: usize, master: NodeId, response: 
     put_name(text, at, b" reply")
 }
 
-/// Puts the words that a reply tells, which most replies leave at 0, before what stands from `at` on, each with a space
-/// before it. Answers where they begin.
+/// Writes the three words that a reply tells, each with a space before it, so that they end before `text[at]`.
+/// Returns the index of the first space. Most replies leave them at 0, which is written faster.
 #[inline(always)]
 fn told_words(text: &mut [u8], at: usize, words: &[u32; 3]) -> usize
     requires room { 33 ≤ at }
@@ -308,8 +313,8 @@ fn told_words(text: &mut [u8], at: usize, words: &[u32; 3]) -> usize
     put_number(text, at, words[0])
 }
 
-/// Puts the words that tell of a message that is dropped before what stands from `at` on, each with a space before it.
-/// Answers where they begin.
+/// Writes the words of a dropped message, each with a space before it, so that they end before `text[at]`. Returns
+/// the index of the first space.
 fn drop_words(text: &mut [u8], at: usize, master: NodeId) -> usize
     requires room { 80 ≤ at }
     requires within { at ≤ length text.old }
@@ -321,8 +326,8 @@ fn drop_words(text: &mut [u8], at: usize, master: NodeId) -> usize
     put_name(text, at, b" drop")
 }
 
-/// Puts the words of a callback, of which these are the number and the arguments, before what stands from `at` on, each
-/// with a space before it. Answers where they begin.
+/// Writes the words of a callback with this number and these arguments, each with a space before it, so that they end
+/// before `text[at]`. Returns the index of the first space.
 fn call_words(text: &mut [u8], at: usize, master: NodeId, id: u32, args: &[u32; 4]) -> usize
     requires room { 80 ≤ at }
     requires within { at ≤ length text.old }

@@ -1,5 +1,5 @@
-//! The text of a core step of few lines, which is written in one piece for speed alone. It is made from its end to its
-//! front, as the digits of a number are found.
+//! The text of a core step of few lines, written in one piece. It is there for speed alone. It is written from its
+//! end to its front, since a number's last digit is found first.
 
 ghost use Rattle.std.specs.Prelude.{◌≡◌, ◌+◌, ◌*◌, ◌<◌, ◌≤◌, ◌++◌, ◌∷◌, [], IsTrue, decimal, drop, length, map, option_to_list};
 ghost use Rattle.pm_trace.specs.declared.step.StepLine.TheVariants as told;
@@ -14,18 +14,18 @@ use pm_core::{Answer, Done, Outbox, Start};
 use pm_ipi::Response;
 use std::marker::Model;
 
-/// The room for the text of a step of few lines, in bytes. It has (8 + 2 + 1) * 91 = 1,001 at most.
+/// The room for the text of a step of few lines, in bytes: it needs (8 + 2 + 1) * 91 = 1,001 at most.
 const ROOM: usize = 1024;
-/// The most commands of a step of few lines.
+/// The most commands that a step of few lines may have.
 const COMMANDS: usize = 8;
-/// The most processors that start in a step of few lines.
+/// The most starts that a step of few lines may have.
 const STARTS: usize = 2;
 
-/// A number of at most nine digits, with its digits. Contracts see the number.
+/// A number with its digits, at most nine. Contracts see the number.
 #[derive(Drop)]
 struct Number {
     value: u32,
-    /// The digits but the last one: those from place `start` on.
+    /// The digits from index `start` on are all but the last one.
     digits: [u8; 8],
     start: usize,
     last: u8,
@@ -43,7 +43,7 @@ impl Model for Number {
 }
 
 impl Number {
-    /// Writes its digits so that they end before `text[at]`. Answers the place of the first one.
+    /// Writes the digits so that they end before `text[at]`. Returns the index of the first one.
     #[inline(always)]
     fn put(&self, text: &mut [u8], at: usize) -> usize
         requires room { 10 ≤ at }
@@ -57,12 +57,12 @@ impl Number {
     }
 }
 
-/// The ten numbers that differ in their last digit alone, as 120 to 129, with the digits before it: so these aren't
-/// found anew for each step. Contracts see the first of the ten.
+/// Ten numbers that differ only in their last digit, as 120 to 129, with their common digits: steps with near numbers
+/// share them. Contracts see the first of the ten.
 #[derive(Drop)]
 struct Tens {
     first: u32,
-    /// The digits that the ten have in common: those from place `start` on.
+    /// The digits from index `start` on are common to the ten.
     digits: [u8; 8],
     start: usize,
 }
@@ -91,8 +91,8 @@ impl Tens {
         }
     }
 
-    /// Makes these the ten numbers that `n` is one of, and answers true. If `n` has ten digits, it answers false and
-    /// nothing changes: there is room for nine.
+    /// Moves to the ten numbers among which `n` is, and returns true. If `n` has ten digits nothing changes, and the
+    /// result is false: there is room for nine.
     #[inline(always)]
     fn move_to(&mut self, n: u32) -> bool
         ensures from { IsTrue result → self.new ≤ n }
@@ -105,7 +105,7 @@ impl Tens {
         }
     }
 
-    /// As `move_to`, for a number that isn't one of these ten yet: finds the digits anew.
+    /// Finds the digits for `move_to`, if `n` isn't among the ten already.
     #[inline(never)]
     fn find(&mut self, n: u32) -> bool
         ensures from { IsTrue result → self.new ≤ n }
@@ -124,7 +124,7 @@ impl Tens {
         true
     }
 
-    /// The number `n`, which is one of these ten, with its digits.
+    /// The number `n` with its digits. It has to be one of the ten.
     #[inline(always)]
     fn number(&self, n: u32) -> Number
         requires from { self.now ≤ n }
@@ -143,10 +143,10 @@ impl Tens {
 /// The text of a core step of few lines. Contracts see its bytes.
 #[derive(Drop)]
 pub struct StepText {
-    /// The bytes from place `start` on are the text.
+    /// The bytes from index `start` on are the text.
     text: [u8; 1024],
     start: usize,
-    /// The numbers near that of the last step that was written.
+    /// The ten numbers around that of the last step.
     tens: Tens,
 }
 
@@ -162,7 +162,7 @@ impl Model for StepText {
 }
 
 impl StepText {
-    /// A text without bytes.
+    /// An empty text.
     pub fn new() -> StepText
         ensures { result.items ≡ [] }
     {
@@ -173,7 +173,7 @@ impl StepText {
         }
     }
 
-    /// Its bytes.
+    /// The bytes of the text, at most 1,024.
     pub fn as_slice(&self) -> &[u8]
         ensures value { result.now ≡ self.now.items }
         ensures fits { length result.now ≤ 1024 }
@@ -181,10 +181,10 @@ impl StepText {
         bytes_from(&self.text, self.start)
     }
 
-    /// Makes this the text of a core step of script line `n` with this answer, and answers true, if the step is short
-    /// enough: at most eight commands and two starts, no late reply, no callback but the acknowledgement in its answer,
-    /// and a number `n` of at most nine digits. Otherwise it answers false, and nothing is promised of the bytes: the
-    /// caller then writes the step line by line. So this is for speed alone.
+    /// Makes this the text of a core step of script line `n` with this answer, and returns true, if the step has few
+    /// lines: at most eight commands and two starts, no late reply, no callback but the acknowledgement in its
+    /// answer, and a number `n` of at most nine digits. Else it returns false, and the bytes are arbitrary: the
+    /// caller then writes the step line by line.
     #[inline(always)]
     pub fn fill(&mut self, n: u32, out: &Outbox, answer: &Answer) -> bool
         ensures { IsTrue result
@@ -201,7 +201,7 @@ impl StepText {
     }
 }
 
-/// The bytes of a text from place `from` on.
+/// The bytes of a text from index `from` on.
 fn bytes_from(text: &[u8; 1024], from: usize) -> &[u8]
     requires { from ≤ 1024 }
     ensures value { result.now ≡ drop from text.now }
@@ -210,8 +210,8 @@ fn bytes_from(text: &[u8; 1024], from: usize) -> &[u8]
     &text[from..]
 }
 
-/// Whether a step has at most `COMMANDS` commands and `STARTS` starts, no late reply, and no callback beside its
-/// answer.
+/// Whether a step has few lines: at most `COMMANDS` commands and `STARTS` starts, no late reply, and no callback
+/// beside its answer.
 #[inline(always)]
 fn is_short(out: &Outbox) -> bool
     ensures commands { IsTrue result → length out.now.done.items ≤ COMMANDS }
@@ -225,8 +225,8 @@ fn is_short(out: &Outbox) -> bool
         && out.callbacks.as_slice().is_empty()
 }
 
-/// Writes the line of an answer at the end of a text, if the answer has one. Answers the place at which the line
-/// begins, and `ROOM` if there is none.
+/// Writes the line of an answer, if it has one, at the very end of a text. Returns the index of its first byte, or
+/// `ROOM` if there is none.
 #[inline(always)]
 fn put_last(text: &mut [u8; 1024], number: &Number, answer: &Answer) -> usize
     ensures room { ROOM ≤ result + LINE }
@@ -239,7 +239,7 @@ fn put_last(text: &mut [u8; 1024], number: &Number, answer: &Answer) -> usize
     }
 }
 
-/// As `put_last`, for any answer. It is called for those that aren't replies: they are rare, and this isn't inlined.
+/// As `put_last`, not inlined: for the answers that are no replies, which are rare.
 #[inline(never)]
 fn put_rare(text: &mut [u8; 1024], n: u32, answer: &Answer) -> usize
     ensures room { ROOM ≤ result + LINE }
@@ -253,7 +253,7 @@ fn put_rare(text: &mut [u8; 1024], n: u32, answer: &Answer) -> usize
     }
 }
 
-/// Writes the line of a reply at the end of a text. Answers the place at which the line begins.
+/// Writes the line of a reply at the very end of a text. Returns the index of its first byte.
 #[inline(always)]
 fn put_reply(text: &mut [u8; 1024], number: &Number, master: NodeId, response: &Response) -> usize
     ensures room { ROOM ≤ result + LINE }
@@ -265,8 +265,8 @@ fn put_reply(text: &mut [u8; 1024], number: &Number, master: NodeId, response: &
     number.put(text, at)
 }
 
-/// Writes the lines of the processors that start in step `n`, in order, so that they end before `text[at]`. Answers the
-/// place at which they begin.
+/// Writes the lines of the starts in script line `n`, in order, so that they end before `text[at]`. Returns the index
+/// of the first byte.
 #[inline(always)]
 fn put_starts(text: &mut [u8; 1024], at: usize, n: u32, starts: &[Start]) -> usize
     requires few { length starts.now ≤ STARTS }
@@ -285,7 +285,7 @@ fn put_starts(text: &mut [u8; 1024], at: usize, n: u32, starts: &[Start]) -> usi
     from
 }
 
-/// Writes the lines of commands, in order, so that they end before `text[at]`. Answers the place at which they begin.
+/// Writes the lines of commands, in order, so that they end before `text[at]`. Returns the index of the first byte.
 #[inline(always)]
 fn put_commands(text: &mut [u8; 1024], at: usize, number: &Number, commands: &[Done]) -> usize
     requires few { length commands.now ≤ COMMANDS }
@@ -303,7 +303,7 @@ fn put_commands(text: &mut [u8; 1024], at: usize, number: &Number, commands: &[D
     from
 }
 
-/// Writes the line of a command so that it ends before `text[at]`. Answers the place at which it begins.
+/// Writes the line of a command so that it ends before `text[at]`. Returns the index of its first byte.
 #[inline(always)]
 #[tactic(auto, using(crate::proofs::LineLemmas::line_before))]
 fn put_command(text: &mut [u8], at: usize, number: &Number, done: &Done) -> usize

@@ -1,4 +1,4 @@
-//! A device follows a book: the commands of each step, and what is kept of them.
+//! A device follows a book: the commands of each step, and the kept values after them.
 
 ghost use Rattle.pm_topology.specs.WellFormed.{IsWellFormed};
 ghost use Rattle.pm_state.specs.Values.{value};
@@ -17,13 +17,13 @@ use std::alloc::Global;
 use std::test::Fail;
 use test_books::{Desk, Trigger, boxed, chip, desk_with, event_of, message, object_of};
 
-/// The masters 8 and 7, the second of which may use slave 28, and reset its line.
+/// Masters 8 and 7. Master 7 may use slave 28 and reset its line.
 const OBJECT: &[u32] = &[
     2, 3, 1, 0x101, 2, 8, 0x200, 100, 0, 0, 7, 0x100, 100, 0, 0, 0x102, 1, 28, 0, 0x100, 0x105, 1,
     28, 0x100,
 ];
 
-/// A book with its outbox, and what is kept of a device that follows it.
+/// A book with its outbox, and the record of a device that follows it.
 #[derive(Drop)]
 struct Drive {
     kept: Kept,
@@ -32,7 +32,7 @@ struct Drive {
     ghost marks: { AreMarked desk.value.book.fixed.topology (λ u. value u desk.value.book) kept },
 }
 
-/// The book at load, and the commands that follow it.
+/// A book at load, after the commands of the load.
 fn started<D: Device>(
     alloc: Global,
     object: Object,
@@ -60,7 +60,7 @@ fn started<D: Device>(
     }
 }
 
-/// A drive over the chip's own table, at its load.
+/// A drive over the chip's own topology, after the load.
 fn started_over<D: Device>(alloc: Global, object: Object, dev: &mut D) -> Result<Drive, NoMemory> {
     match chip(alloc) {
         Ok(chip) => started(alloc, object, chip, dev),
@@ -71,7 +71,7 @@ fn started_over<D: Device>(alloc: Global, object: Object, dev: &mut D) -> Result
     }
 }
 
-/// A drive over the chip's own table in which master 7 is started.
+/// A drive over the chip's own topology, after master 7 was started.
 fn drive_of<D: Device>(alloc: Global, dev: &mut D) -> Result<Box<Drive>, Fail> {
     let object = object_of(alloc, OBJECT)?;
     let drive = started_over(alloc, Box::into_inner(object), dev)?;
@@ -80,21 +80,21 @@ fn drive_of<D: Device>(alloc: Global, dev: &mut D) -> Result<Box<Drive>, Fail> {
     Ok(drive)
 }
 
-/// A device over the chip that does all but what it is told not to.
+/// A device of the chip that fails only commands on broken nodes.
 fn model(alloc: Global) -> Result<Box<ModelDevice>, Fail> {
     let chip = boxed(alloc, chip(alloc)?)?;
     let dev = ModelDevice::new(alloc, &chip)?;
     Ok(boxed(alloc, dev)?)
 }
 
-/// A device over the chip that fails at these commands.
+/// A device of the chip that fails the commands with these numbers.
 fn listed(alloc: Global, failing: &[u32]) -> Result<Box<ListedDevice>, Fail> {
     let chip = boxed(alloc, chip(alloc)?)?;
     let dev = ListedDevice::new(alloc, &chip, failing)?;
     Ok(boxed(alloc, dev)?)
 }
 
-/// A call of master 7 on node 28 with ACCESS.
+/// A call of master 7 on node 28, with ACCESS.
 fn call(api: u32) -> Event {
     call_on(api, 28, 1)
 }
@@ -105,7 +105,7 @@ fn call_on(api: u32, first: u32, second: u32) -> Event {
 }
 
 impl Drive {
-    /// An event, and the commands that follow it.
+    /// Takes an event, and carries out the commands of its step.
     fn take<D: Device>(&mut self, event: &Event, dev: &mut D) {
         marks_suffice();
         let desk = &mut *self.desk;
@@ -114,11 +114,10 @@ impl Drive {
     }
 }
 
-/// A command: the node, the value before, the value, and whether the device took it.
+/// A command: the node, the value before, the commanded value, and whether the device took it.
 type Done = (u32, u32, u32, bool);
 
-/// Whether node 28 is broken, a call, the commands that follow it, and what is kept of some nodes then:
-/// the value and the mark.
+/// A row: whether node 28 is broken, a call, its commands, and then some nodes with their kept value and mark.
 type Turn = (bool, u32, &'static [Done], &'static [(u32, u32, bool)]);
 
 fn are_done(out: &Outbox, commands: &[Done]) -> bool {
@@ -240,7 +239,7 @@ fn a_domain_stays_up_over_a_slave_that_is_broken(rt: HostRuntime) -> Result<(), 
     Ok(())
 }
 
-/// The status and the words that the caller is told.
+/// The status and the words that the caller is answered.
 fn told(out: &Outbox) -> (u32, [u32; 3]) {
     match out.answer {
         Answer::Reply { response, .. } => {
@@ -251,10 +250,10 @@ fn told(out: &Outbox) -> (u32, [u32; 3]) {
     }
 }
 
-/// Whether node 28 is broken, a call, and the status and the words that the caller is told.
+/// A row: whether node 28 is broken, a call, and the status and the words that the caller is answered.
 type Told = (bool, u32, u32, [u32; 3]);
 
-/// The node is broken when it is requested, and is tried again at each later step.
+/// The node is broken when it is requested. Each later step tries it again.
 static TOLD: [Told; 4] = [
     (true, REQUEST, 2000, [0, 0, 0]),
     (true, STATUS, 0, [1, 1, 1]),
@@ -281,7 +280,8 @@ fn a_device_that_does_not_follow_is_an_internal_error(rt: HostRuntime) -> Result
     Ok(())
 }
 
-/// Whether these commands were given to line 28: the value before, the value, and whether the device took it.
+/// Whether exactly these commands were given to line 28: the value before, the commanded value, and whether the
+/// device took it.
 fn are_done_on_line(out: &Outbox, commands: &[(u32, u32, bool)]) -> bool {
     let done = out.done.as_slice();
     for (place, wanted) in commands.iter().enumerate() {
@@ -297,8 +297,8 @@ fn are_done_on_line(out: &Outbox, commands: &[(u32, u32, bool)]) -> bool {
     done.len() == commands.len()
 }
 
-/// The action of a reset of line 28, the commands on the line, what is kept of it then, and the status that the caller
-/// is told.
+/// A row: the action of a reset of line 28, the commands on the line, its kept value and mark after them, and the
+/// status that the caller is answered.
 type Reset = (u32, &'static [(u32, u32, bool)], u32, bool, u32);
 
 fn wrong_reset<D: Device>(drive: &mut Drive, dev: &mut D, resets: &[Reset]) -> Option<usize> {
@@ -317,7 +317,7 @@ fn wrong_reset<D: Device>(drive: &mut Drive, dev: &mut D, resets: &[Reset]) -> O
     None
 }
 
-/// A pulse over a line that is released, and over one that is asserted: then the 0 alone. There is no action 3.
+/// A pulse of a released line, and of an asserted one: the latter is the 0 alone. There is no action 3.
 static LINES: [Reset; 8] = [
     (0, &[], 0, false, 0),
     (2, &[(0, 1, true), (1, 0, true)], 0, false, 0),

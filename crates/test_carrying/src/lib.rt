@@ -1,4 +1,4 @@
-//! Tests of the commands that follow a step: what a device is told, in which order, and what is kept of it.
+//! Tests of the commands that follow a step: their order, and the kept values after them.
 #![tactic(auto)]
 
 #[cfg(test)]

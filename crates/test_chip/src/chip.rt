@@ -7,7 +7,7 @@ use pm_topology::{Kind, LineDef, SlaveDef, Topology};
 use std::alloc::Global;
 use std::test::Fail;
 
-/// The chip, of which nothing is said.
+/// The chip's topology, without a contract: the tests need none.
 pub(crate) fn chip(alloc: Global) -> Result<Box<Topology>, Fail> {
     Ok(boxed(alloc, zynqmp(alloc)?)?)
 }
@@ -99,7 +99,7 @@ fn states(class: char) -> &'static [State] {
     }
 }
 
-/// Whether a slave has these states.
+/// Whether a slave has exactly these states.
 fn has_states(slave: &SlaveDef, wanted: &[State]) -> bool {
     for (place, state) in slave.states.as_slice().iter().enumerate() {
         let found = (state.caps.0, state.latency, state.powered, state.figure);
@@ -274,7 +274,7 @@ fn the_chip_has_the_published_lines_and_masters(rt: HostRuntime) -> Result<(), F
     Ok(())
 }
 
-/// A node's number, and what it is.
+/// A node's number, and its kind and place.
 static KINDS: [(u32, Kind); 9] = [
     (2, Kind::Proc(0)),
     (8, Kind::Proc(5)),
@@ -287,7 +287,7 @@ static KINDS: [(u32, Kind); 9] = [
     (70, Kind::Unknown),
 ];
 
-/// A copy, of which nothing is said.
+/// A copy of the chip's topology, without a contract: the tests need none.
 fn copied(alloc: Global, chip: &Topology) -> Result<Box<Topology>, Fail> {
     Ok(boxed(alloc, chip.copy(alloc)?)?)
 }
@@ -310,7 +310,7 @@ fn a_copy_passes_and_names_the_same_nodes(rt: HostRuntime) -> Result<(), Fail> {
     Ok(())
 }
 
-/// A node's number, and which of PLD, FPD, LPD, the APU's island and the RPU's are above it.
+/// A node's number, and whether PLD, FPD, LPD, the APU's island and the RPU's are above it.
 static ABOVE: [(u32, [bool; 5]); 9] = [
     (2, [false, true, false, true, false]),
     (7, [false, false, true, false, true]),

@@ -11,10 +11,10 @@ use pm_topology::Topology;
 use std::alloc::Global;
 use std::test::Fail;
 
-/// What a member is, its number, its reason, and its path.
+/// A member of a reach: its kind, its number, its reason, and its path.
 pub(crate) type Row = (MemberKind, u32, Why, &'static [u32]);
 
-/// The text of an object, one of its masters, and what that reaches.
+/// A case: the text of an object, one of its masters, and the members of its reach.
 pub(crate) type Case = (&'static str, u32, &'static [Row]);
 
 /// Two masters, of which 7 shares a memory with 1.
@@ -36,7 +36,7 @@ slave 33 0 1
     ],
 );
 
-/// Master 7 may force the domain of the processors of 1 and of the memory controller.
+/// Master 7 may force the domain that has the processors of 1 and the memory controller.
 const FORCED_DOMAIN: Case = (
     "header
 section masters
@@ -81,7 +81,8 @@ reset 33 1
     ],
 );
 
-/// Master 7 may reset two slaves that it may not use, one of them alone in its domain, and a line that the chip lacks.
+/// Master 7 may reset two slaves that it may not use, one of which is the only one in its domain, and a line that the
+/// chip lacks.
 const RESET_SLAVE: Case = (
     "header
 section masters
@@ -105,8 +106,8 @@ reset 1000 256
     ],
 );
 
-/// Master 7 may force the programmable logic, reset one of the two slaves below it, and use the other. A slave
-/// that stands in the island of its processors it may use too.
+/// Master 7 may force the programmable logic, reset one of the two slaves below it, and use the other. It may also
+/// use a slave in the island of its processors.
 const EACH_REASON_OF_A_SLAVE: Case = (
     "header
 section masters
@@ -133,8 +134,8 @@ reset 63 256
     ],
 );
 
-/// The first master that brings in a slave counts, although a later one does so for an earlier reason; and a slave
-/// that stands in the island of another master's processors brings in that island.
+/// The first master that brings in a slave gives the reason, even if a later one has an earlier reason. A slave in
+/// the island of another master's processors brings in that island.
 const FIRST_MASTER: Case = (
     "header
 section masters
@@ -192,7 +193,7 @@ pub(crate) fn are_rows(members: &[Member], rows: &[Row]) -> bool {
             .all(|(member, row)| is_row(member, row))
 }
 
-/// Whether these are what a master of an object reaches.
+/// Whether a master of an object reaches exactly these members.
 pub(crate) fn reaches(
     alloc: Global,
     object: &Object,
@@ -207,7 +208,7 @@ pub(crate) fn reaches(
     Ok(are_rows(found.members.as_slice(), rows))
 }
 
-/// The place of the first case that a topology doesn't have.
+/// The index of the first case with another reach.
 pub(crate) fn wrong_case(
     alloc: Global,
     t: &Topology,
@@ -229,18 +230,18 @@ fn each_member_has_its_path_and_reason(rt: HostRuntime) -> Result<(), Fail> {
     Ok(())
 }
 
-/// The power nodes of the small topology, and one more, with nothing below it.
+/// The power nodes of the small topology, and one more with nothing below it.
 const EMPTY_DOMAIN: &[Power] = &[(9, None), (10, Some(0)), (8, Some(0))];
 
-/// Two processors, the second of which two masters have. No chip that passes its check has that.
+/// Two processors, the second of which two masters have. No chip that passes its check is so.
 const TWO_PROCS: &[Proc] = &[(2, 1), (3, 1)];
 
 const SHARING: &[Master] = &[(1, &[2, 3]), (6, &[3])];
 
 const SMALL: Lists = (EMPTY_DOMAIN, TWO_PROCS, SLAVES, LINES, SHARING);
 
-/// Master 6, which has a processor in common with master 1, may force a power node with nothing below it, or one that
-/// has all others and the processors of both below it.
+/// Master 6, which shares a processor with master 1, may force a power node with nothing below it, or one that is
+/// above all others and above the processors of both.
 static EMPTY: [Case; 2] = [
     (
         "header
@@ -293,7 +294,7 @@ const SHARED: Lists = (
     &[(1, &[2, 3]), (7, &[3]), (8, &[])],
 );
 
-/// Master 8 may force processor 3, and so each master that has it.
+/// Master 8 may force processor 3, and therefore reaches each master that has it.
 static OWNERS: [Case; 1] = [(
     "header
 section masters

@@ -1,4 +1,4 @@
-//! Which masters a master can reach: by the least paths, each for its first reason.
+//! The masters that a master can reach: by the least paths, each for its first reason.
 
 use crate::chip::chip;
 use crate::reach::{Case, Row, reaches, wrong_case};
@@ -34,8 +34,8 @@ reset 8 256
     ],
 );
 
-/// Two paths of one length bring in a slave: that to the earlier master of the object counts. A direct path is
-/// shorter than one by way of another master.
+/// If two paths of one length bring in a slave, the one by the earlier master of the object counts. A direct path is
+/// shorter than one through another master.
 const TIE: Case = (
     "header
 section masters
@@ -58,7 +58,7 @@ slave 46 1 768
     ],
 );
 
-/// A direct path counts, although its reason is a later one than those of a longer path.
+/// A direct path counts, even if its reason comes later than those of a longer path.
 const DIRECT: Case = (
     "header
 section masters
@@ -93,7 +93,7 @@ fn masters_reach_one_another_by_least_paths(rt: HostRuntime) -> Result<(), Fail>
 /// A master: its node, its bit, and its suspend and wake words.
 type Master = (u32, u32, u32, u32);
 
-/// All four masters of the chip, which no object that is read has, one of them, and what that reaches.
+/// Cases with all four masters of the chip, which no object that is read has.
 static FOUR: [(&[Master], u32, &[Row]); 2] = [
     // a chain through all of them, and back to its start
     (
@@ -115,7 +115,7 @@ static FOUR: [(&[Master], u32, &[Row]); 2] = [
             (MemberKind::Power, 62, Why::Above, &[6]),
         ],
     ),
-    // two paths of one length to master 8: that by way of the earlier master of the object, for its reason
+    // two paths of one length to master 8: the one by the earlier master of the object counts, with its reason
     (
         &[
             (8, 512, 0, 0),
@@ -168,8 +168,8 @@ fn four_masters_reach_one_another_by_least_paths(rt: HostRuntime) -> Result<(), 
     Ok(())
 }
 
-/// The suspend and wake words of master 7, the further sections of an object of masters 1 and 7, and the reason for
-/// which 7 reaches 1.
+/// A row: the suspend and wake words of master 7, the further sections of an object of masters 1 and 7, and the
+/// reason for which 7 reaches 1.
 type Reason = (u32, u32, &'static str, Option<Why>);
 
 static REASONS: [Reason; 19] = [
@@ -226,8 +226,8 @@ static REASONS: [Reason; 19] = [
         "section config\nconfig 256 0\nsection shutdown\nshutdown 2 256\n",
         Some(Why::Shutdown),
     ),
-    // none: a master that isn't there, and its own bit; a power node above nothing of 1, and a slave of 1 that is
-    // forced; the reset of a slave of 1; a shutdown of itself, and of no subtype; the overlay mask
+    // no reason: a master that isn't there, and its own bit; a power node above nothing of 1, and a forced slave of
+    // 1; the reset of a slave of 1; a shutdown of itself, and of no subtype; the overlay mask
     (768, 768, "", None),
     (
         0,
@@ -243,7 +243,7 @@ static REASONS: [Reason; 19] = [
     ),
 ];
 
-/// The object of masters 1 and 7 that a reason asks for.
+/// The object of masters 1 and 7 for a row.
 fn object_for(alloc: Global, reason: &Reason) -> Result<Box<Object>, Fail> {
     let (suspend, wake, sections, _) = reason;
     let text = format!(in alloc;
@@ -253,7 +253,7 @@ fn object_for(alloc: Global, reason: &Reason) -> Result<Box<Object>, Fail> {
     Ok(boxed(alloc, object)?)
 }
 
-/// The reason for which master 7 of an object reaches master 1.
+/// The reason for which master 7 of an object reaches master 1, if it does.
 fn reason_for(alloc: Global, t: &Topology, object: &Object) -> Result<Option<Why>, Fail> {
     if !has_key(object.masters.as_slice(), 7) {
         return Ok(Some(Why::Myself));

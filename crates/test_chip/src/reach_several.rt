@@ -1,4 +1,4 @@
-//! What a master can reach where several objects permit: each reason split between two of them.
+//! The reach of a master over several objects: each reason split between two of them.
 
 use crate::chip::chip;
 use crate::reach::{Row, are_rows};
@@ -12,7 +12,7 @@ use pm_topology::Topology;
 use std::alloc::Global;
 use std::test::Fail;
 
-/// The texts of the objects, which all have masters 1, 7 and 8, and what 7 reaches.
+/// A case: the texts of the objects, which all have masters 1, 7 and 8, and the reach of 7.
 type Case = (&'static [&'static str], &'static [Row]);
 
 /// An object of the three masters that permits nothing.
@@ -23,7 +23,7 @@ master 7 256 100 0 0
 master 8 512 100 0 0
 ";
 
-/// Each master may wake the next by another object. By neither alone does 7 reach 1.
+/// Each master may wake the next one by another object. By one object alone 7 doesn't reach 1.
 const WAKES: Case = (
     &[
         "header
@@ -81,7 +81,7 @@ slave 69 1 512
     ],
 );
 
-/// The first reason counts, although a later object gives it.
+/// The first reason counts, even if a later object gives it.
 const FIRST_REASON: Case = (
     &[
         NOTHING,
@@ -111,7 +111,7 @@ slave 33 0 256
     ],
 );
 
-/// A direct step by a later object is shorter than two by the first.
+/// A direct step by a later object is shorter than two steps by the first.
 const SHORTER: Case = (
     &[
         "header
@@ -141,7 +141,7 @@ reset 5 256
     ],
 );
 
-/// Nothing is united where no object permits.
+/// Two objects that permit nothing.
 const NEITHER: Case = (
     &[NOTHING, NOTHING],
     &[
@@ -162,7 +162,7 @@ fn objects_of(alloc: Global, texts: &[&str]) -> Result<Box<List<Object>>, Fail> 
     Ok(objects)
 }
 
-/// Whether these are what master 7 of the objects reaches.
+/// Whether master 7 of the objects reaches exactly these members.
 fn reaches(alloc: Global, objects: &[Object], t: &Topology, rows: &[Row]) -> Result<bool, Fail> {
     if !has_key(masters_of(objects), 7) {
         return Ok(false);
@@ -188,7 +188,7 @@ fn one_object_permits_a_step_and_another_the_next(rt: HostRuntime) -> Result<(),
     Ok(())
 }
 
-/// A permission of master 7 that one object gives and the other doesn't, and the reason for which 7 then reaches 1.
+/// A row: a permission of master 7 that only one object gives, and the reason for which 7 then reaches 1.
 static REASONS: [(&str, Why); 6] = [
     ("master 7 256 100 1 0\nmaster 8 512 100 0 0\n", Why::Suspend),
     ("master 7 256 100 0 1\nmaster 8 512 100 0 0\n", Why::Wake),
@@ -210,7 +210,7 @@ static REASONS: [(&str, Why); 6] = [
     ),
 ];
 
-/// Whether master 7 of the objects of these texts reaches 1 for this reason.
+/// Whether master 7 reaches 1 for this reason, over the objects of these texts.
 fn reaches_first(alloc: Global, texts: &[&str], t: &Topology, why: Why) -> Result<bool, Fail> {
     let objects = objects_of(alloc, texts)?;
     if !has_key(masters_of(objects.as_slice()), 7) {
@@ -224,7 +224,7 @@ fn reaches_first(alloc: Global, texts: &[&str], t: &Topology, why: Why) -> Resul
     )
 }
 
-/// The place of the first reason that doesn't lead whether the object that gives it stands first or last.
+/// The index of the first row whose reason isn't found with the permitting object first and with it last.
 fn wrong_reason(alloc: Global, t: &Topology) -> Result<Option<usize>, Fail> {
     for (place, (rest, why)) in REASONS.iter().enumerate() {
         let text = format!(in alloc; "header\nsection masters\nmaster 1 1 100 0 0\n{rest}")?;

@@ -6,7 +6,7 @@ use pm_topology::{TopoCause, TopoFault, Topology};
 use std::alloc::Global;
 use std::test::Fail;
 
-/// The first fault, if there is one.
+/// The first fault with its place, if there is one.
 pub(crate) type Found = Option<(TopoCause, usize)>;
 
 /// The first fault of the topology with these lists.
@@ -22,7 +22,7 @@ pub(crate) fn first_fault(topology: &Topology) -> Found {
     }
 }
 
-/// Lists, and the first fault of their topology.
+/// A case: lists, and the first fault of their topology with its place.
 type Case = (Lists, TopoCause, usize);
 
 static FAULTS: [Case; 13] = [
@@ -131,7 +131,7 @@ static FAULTS: [Case; 13] = [
 
 /// Topologies with two faults, of which the first counts.
 static TWO_FAULTS: [Case; 11] = [
-    // At one entry the order of the rules counts.
+    // at one entry the order of the rules counts
     (
         (&[(9, None), (9, Some(1))], PROCS, SLAVES, LINES, MASTERS),
         TopoCause::Repeated,
@@ -175,7 +175,7 @@ static TWO_FAULTS: [Case; 11] = [
         TopoCause::Repeated,
         1,
     ),
-    // In a list the earlier entry counts, whatever its rule.
+    // in a list the earlier entry counts, whatever its rule
     (
         (
             POWERS,
@@ -192,7 +192,7 @@ static TWO_FAULTS: [Case; 11] = [
         TopoCause::BadTarget,
         0,
     ),
-    // The lists come one after another.
+    // the lists come one after another
     (
         (
             &[(9, None), (10, Some(1))],

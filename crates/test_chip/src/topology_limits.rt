@@ -37,8 +37,7 @@ fn put_powers(chip: &mut Topology, from: u32, to: u32) -> Result<(), NoMemory> {
     Ok(())
 }
 
-/// Puts entries at the end of each list of the chip, up to its limit: 59 power nodes, 58 processors, 454 slaves and
-/// 960 reset lines.
+/// Fills up each list of the chip to its limit: with 59 power nodes, 58 processors, 454 slaves and 960 reset lines.
 fn put_all(alloc: Global, chip: &mut Topology) -> Result<(), NoMemory> {
     put_powers(chip, 6000, 6059)?;
     put_procs(chip, 5000, 5058)?;
@@ -46,7 +45,7 @@ fn put_all(alloc: Global, chip: &mut Topology) -> Result<(), NoMemory> {
     put_lines(chip, 2000, 2960)
 }
 
-/// The first fault at the limits, and then of each list, from the last to the first, with one entry more.
+/// The first fault at the limits; and then with one entry too many, list by list from the last to the first.
 fn found_past_limits(alloc: Global, chip: &mut Topology) -> Result<[Found; 6], NoMemory> {
     put_all(alloc, chip)?;
     let full = first_fault(chip);

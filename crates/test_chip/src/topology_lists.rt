@@ -53,8 +53,8 @@ const LATE: SlaveState = SlaveState {
     figure: 9,
 };
 
-/// The states of a slave: all that are needed, the fullest not last, a fullest that is left late, five,
-/// and none.
+/// The states of a slave: a sound list, one whose fullest state isn't the last, one whose fullest state takes long to
+/// leave, five states, and none.
 #[derive(Clone, Copy)]
 pub(crate) enum States {
     Full,
@@ -179,7 +179,7 @@ fn put_masters(alloc: Global, topology: &mut Topology, entries: &[Master]) -> Re
     Ok(())
 }
 
-/// A topology of empty lists.
+/// A topology whose lists are all empty.
 fn empty(alloc: Global) -> Topology {
     Topology {
         slaves: List::new(alloc),

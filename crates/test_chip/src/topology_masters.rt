@@ -12,18 +12,18 @@ type MastersCase = (&'static [Master], TopoCause, usize);
 
 static MASTER_FAULTS: [MastersCase; 15] = [
     (&[(1, &[2]), (1, &[3]), (6, &[7])], TopoCause::Repeated, 1),
-    // A number that isn't a master's.
+    // a number that isn't a master's
     (&[(1, &[2]), (2, &[3]), (6, &[7])], TopoCause::BadMember, 1),
-    // No processors, a slave among them, a power node, and one named twice.
+    // no processors; a slave among them; a power node; one named twice
     (&[(1, &[]), (6, &[7])], TopoCause::BadMember, 0),
     (&[(1, &[2, 3]), (6, &[7, 11])], TopoCause::BadMember, 1),
     (&[(1, &[9])], TopoCause::BadMember, 0),
     (&[(1, &[2, 3, 2])], TopoCause::BadMember, 0),
-    // A processor with a master's number is of that master alone, or also of the RPU in lock-step.
+    // a processor with a master's number belongs to that master alone, or also to the RPU in lock-step
     (&[(6, &[7, 8]), (1, &[2, 7])], TopoCause::BadMember, 1),
     (&[(6, &[7]), (7, &[8])], TopoCause::BadMember, 1),
     (&[(8, &[7])], TopoCause::BadMember, 0),
-    // A processor of two masters.
+    // a processor of two masters
     (&[(1, &[2, 3]), (6, &[3])], TopoCause::Overlap, 1),
     (
         &[(7, &[7, 3]), (6, &[7]), (8, &[8, 3])],
@@ -31,7 +31,7 @@ static MASTER_FAULTS: [MastersCase; 15] = [
         2,
     ),
     (&[(7, &[2]), (6, &[2]), (1, &[2])], TopoCause::Overlap, 2),
-    // A master without an entry.
+    // a master without an entry
     (&[], TopoCause::NoMaster, 0),
     (&[(1, &[2]), (6, &[7]), (7, &[7])], TopoCause::NoMaster, 3),
     (
@@ -48,12 +48,12 @@ static TWO_MASTER_FAULTS: [MastersCase; 7] = [
     (&[(1, &[2]), (6, &[2, 2])], TopoCause::BadMember, 1),
     (&[(1, &[2]), (5, &[2])], TopoCause::BadMember, 1),
     (&[(1, &[2]), (6, &[2]), (7, &[])], TopoCause::Overlap, 1),
-    // A missing master comes after the faults of all entries.
+    // a missing master comes after the faults of all entries
     (&[(1, &[2]), (6, &[7]), (7, &[2])], TopoCause::Overlap, 2),
     (&[(1, &[2]), (6, &[])], TopoCause::BadMember, 1),
 ];
 
-/// Masters that pass: the RPU in lock-step may share with each of its halves.
+/// Masters without a fault: the RPU in lock-step may share with each of its halves.
 static GOOD_MASTERS: [&[Master]; 3] = [
     MASTERS,
     &[(8, &[8, 3]), (6, &[3, 8, 7]), (7, &[7]), (1, &[2])],

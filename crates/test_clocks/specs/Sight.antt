@@ -1,4 +1,4 @@
--- What the small book of the tests shows: one master is off, one slave is used by nobody, and one slave isn't on.
+-- The small book of the tests: one master is off, nobody may use one slave, and one slave isn't on.
 use Rattle.std.specs.Prelude.{ℕ, ◌==◌, not}
 use Rattle.pm_clock_tree.specs.Tree.{Seen}
 

@@ -6,8 +6,8 @@ use std::alloc::Global;
 use std::process::Abort;
 use std::test::Fail;
 
-/// A book in which the master `off` is off, nobody may use the slave `barred`, and the slave `down` isn't on. 0 is
-/// none.
+/// A book in which the master `off` is off, nobody may use the slave `barred`, and the slave `down` is in state 0. A
+/// 0 stands for none.
 #[derive(Drop)]
 struct Sight {
     off: u32,
@@ -33,15 +33,16 @@ impl Scene for Sight {
     }
 }
 
-/// A book by its three numbers.
+/// A book as the numbers `off`, `barred` and `down`.
 type Book = (u32, u32, u32);
 
-/// A step: the book after it; who sends a message, and its number and first two arguments, where 0 is no call on a
-/// clock; the status and the first word that are answered, if it is one; and up to three clocks that began or ceased
-/// to run, by number, and then 0.
+/// A row: the book after the step; the sender, and its message's number and first two arguments; the expected status
+/// and first word, if it is a call on a clock; and up to three clocks that started or stopped, by number, filled up
+/// with 0.
 type Row = (Book, u32, [u32; 3], Option<(u32, u32)>, [u32; 3]);
 
-/// The message of a row is answered, and its step is followed.
+/// Serves the message of a row, if it is a call on a clock, and follows its step. Returns the status and the first
+/// word of the answer.
 fn play(clocks: &mut ClockTree, row: &Row) -> Option<(u32, u32)> {
     let ((off, barred, down), master, [api, first, second], _, _) = *row;
     let book = Sight { off, barred, down };
@@ -66,7 +67,7 @@ fn answer_to(
     Some((response.status, response.words[0]))
 }
 
-/// The clocks that changed, the first three of them.
+/// The first three clocks that started or stopped, filled up with 0.
 fn changed(clocks: &mut ClockTree) -> [u32; 3] {
     let mut changed = [0; 3];
     let mut count = 0;
@@ -84,12 +85,12 @@ fn changed(clocks: &mut ClockTree) -> [u32; 3] {
     changed
 }
 
-/// Stops where a row is wrong: `wrong` is the place of the first one.
+/// Fails the test if a row is wrong; `wrong` is the index of the first one.
 fn all_right(rt: &impl Abort, wrong: Option<usize>) {
     assert_eq!(rt; wrong, None);
 }
 
-/// The place of the first row that isn't as it says. The masters of the book are 7, 1 and 6, in this order.
+/// The index of the first wrong row. The masters of the book are 7, 1 and 6, in this order.
 fn first_wrong(alloc: Global, book: Book, rows: &[Row]) -> Result<Option<usize>, NoMemory> {
     let (off, barred, down) = book;
     let book = Sight { off, barred, down };
@@ -103,7 +104,7 @@ fn first_wrong(alloc: Global, book: Book, rows: &[Row]) -> Result<Option<usize>,
     Ok(None)
 }
 
-/// A book in which all is well.
+/// A book without exceptions.
 const WELL: Book = (0, 0, 0);
 
 static ONE_CLOCK: [Row; 11] = [
@@ -126,7 +127,7 @@ fn a_clock_runs_while_it_is_enabled(rt: HostRuntime) -> Result<(), Fail> {
     Ok(())
 }
 
-/// Clocks 5, 14 and 15 come one from the other, and 5 from the root of slave 54.
+/// Clock 15 comes from 14, that from 5, and 5 from the root of slave 54.
 static LEVELS: [Row; 10] = [
     (WELL, 1, [36, 15, 0], Some((0, 0)), [0; 3]),
     (WELL, 1, [36, 14, 0], Some((0, 0)), [0; 3]),
@@ -146,9 +147,9 @@ fn a_root_that_ceases_takes_the_clocks_below_it(rt: HostRuntime) -> Result<(), F
     Ok(())
 }
 
-/// Each check fails alone, and before each later one. Nobody may use slave 40, that of clock 9, in some books.
+/// Each check fails alone, and before each later one. In some books nobody may use slave 40, that of clock 9.
 static CHECKS: [Row; 34] = [
-    // No such clock, or a root.
+    // no such clock, or a root
     (WELL, 1, [36, 16, 0], Some((2003, 0)), [0; 3]),
     (WELL, 1, [37, 0, 0], Some((2003, 0)), [0; 3]),
     (WELL, 1, [38, 16, 0], Some((2003, 0)), [0; 3]),
@@ -158,7 +159,7 @@ static CHECKS: [Row; 34] = [
     (WELL, 1, [40, 4, 0], Some((2003, 0)), [0; 3]),
     (WELL, 1, [43, 1, 9], Some((2003, 0)), [0; 3]),
     (WELL, 1, [44, 2, 0], Some((2003, 0)), [0; 3]),
-    // An argument out of range.
+    // an argument out of range
     (WELL, 1, [39, 9, 0], Some((15, 0)), [0; 3]),
     (WELL, 1, [39, 9, 63], Some((0, 0)), [0; 3]),
     (WELL, 1, [40, 9, 0], Some((0, 63)), [0; 3]),
@@ -167,7 +168,7 @@ static CHECKS: [Row; 34] = [
     (WELL, 1, [43, 7, 3], Some((15, 0)), [0; 3]),
     (WELL, 1, [43, 7, 2], Some((0, 0)), [0; 3]),
     (WELL, 1, [44, 7, 0], Some((0, 2)), [0; 3]),
-    // The caller may not use the slave.
+    // the caller may not use the slave
     ((0, 40, 0), 1, [36, 9, 0], Some((2002, 0)), [0; 3]),
     ((0, 40, 0), 1, [37, 9, 0], Some((2002, 0)), [0; 3]),
     ((0, 40, 0), 1, [39, 9, 1], Some((2002, 0)), [0; 3]),
@@ -177,7 +178,7 @@ static CHECKS: [Row; 34] = [
     ((0, 40, 0), 1, [44, 9, 0], Some((0, 0)), [0; 3]),
     (WELL, 7, [36, 9, 0], Some((0, 0)), [9, 0, 0]),
     ((0, 40, 0), 1, [39, 9, 1], Some((2002, 0)), [9, 0, 0]),
-    // Another master enables the clock.
+    // another master enables the clock
     (WELL, 6, [36, 8, 0], Some((0, 0)), [8, 0, 0]),
     (WELL, 7, [36, 8, 0], Some((0, 0)), [0; 3]),
     (WELL, 1, [39, 8, 5], Some((2007, 7)), [0; 3]),
@@ -194,8 +195,7 @@ fn the_first_check_that_fails_is_answered(rt: HostRuntime) -> Result<(), Fail> {
     Ok(())
 }
 
-/// Enables of masters that are off, and of masters that may not use the slave any more, are gone. Dividers and indexes
-/// stay.
+/// Enables are dropped if the master is off, or may not use the slave any more. Dividers and indexes stay.
 static DROPS: [Row; 17] = [
     (WELL, 6, [36, 10, 0], Some((0, 0)), [10, 0, 0]),
     (WELL, 7, [36, 10, 0], Some((0, 0)), [0; 3]),
@@ -211,7 +211,7 @@ static DROPS: [Row; 17] = [
     ((1, 0, 0), 1, [0, 0, 0], None, [13, 0, 0]),
     (WELL, 6, [40, 10, 0], Some((0, 7)), [0; 3]),
     (WELL, 6, [44, 13, 0], Some((0, 1)), [0; 3]),
-    // One that was off within the step, and isn't after it, keeps what it enables.
+    // a master that was off within the step, but isn't after it, keeps its enables
     (WELL, 1, [36, 13, 0], Some((0, 0)), [13, 0, 0]),
     (WELL, 1, [12, 1, 0], None, [0; 3]),
     ((0, 0, 51), 1, [0, 0, 0], None, [13, 0, 0]),
@@ -223,7 +223,7 @@ fn enables_end_with_their_masters_and_their_permissions(rt: HostRuntime) -> Resu
     Ok(())
 }
 
-/// A root whose slave isn't on from the load on, as one that the chip lacks.
+/// A root whose slave isn't on, as if the chip lacked it.
 static WITHOUT_ROOT: [Row; 5] = [
     ((0, 0, 54), 1, [36, 5, 0], Some((0, 0)), [0; 3]),
     ((0, 0, 54), 1, [38, 4, 0], Some((0, 0)), [0; 3]),

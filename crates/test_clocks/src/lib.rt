@@ -1,4 +1,4 @@
-//! Tests of the clocks: their calls, their checks, and what steps of a book do to them.
+//! Tests of the clocks: their calls and checks, and the effects of steps on them.
 #![tactic(auto)]
 
 #[cfg(test)]

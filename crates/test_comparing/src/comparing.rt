@@ -1,4 +1,4 @@
-//! A run of a script is compared with the run without the messages of a master.
+//! The comparison of a script's run with the run without the messages of a master.
 
 ghost use Rattle.std.specs.List.{list_any};
 ghost use Rattle.std.specs.Prelude.{◌==◌, IsTrue};
@@ -13,11 +13,11 @@ use std::alloc::Global;
 use std::test::Fail;
 use test_books::{SMALL_OBJECT, object_of, small_chip};
 
-/// Master 1, whose mask is greater and which may wake 8, and master 8.
+/// Master 1, which has the greater mask and may wake 8, and master 8.
 const WAKING: &[u32] = &[2, 1, 1, 0x101, 2, 1, 0x200, 100, 0, 0x1, 8, 0x1, 100, 0, 0];
 
-/// Master 8 is asked to suspend, by itself and then by 1; without its own messages the second is accepted,
-/// and times out. The callback of it that waits for 1 is about node 8, the master, and not the power node.
+/// Master 8 asks itself to suspend, and then 1 asks it. Without the messages of 8 the second request is accepted, and
+/// times out. Its callback, which waits for 1, is about node 8 as the master, and not as the power node.
 const ASKED: &str = "ipi 1 21
 boot 108 0
 ipi 8 6 8 3 0 0
@@ -29,14 +29,14 @@ tick 100
 irq 46
 ";
 
-/// Master 8 starts and sleeps.
+/// Master 8 is started, and goes to sleep.
 const SLEEPING: &str = "ipi 1 21
 boot 108 0
 ipi 8 7 108 0 0 0 0
 wfi 108
 ";
 
-/// The first messages of both masters are put into their boxes: that of 1, whose mask is less, is served first.
+/// Both masters put a request into their boxes. That of 1 is served first, since its mask is less.
 const WAITING: &str = "ipi 1 21
 boot 108 0
 post 8 6 8 3 0 0
@@ -44,7 +44,7 @@ post 1 6 8 3 0 0
 serve
 ";
 
-/// Master 8 sleeps by a message from its box, beside one of 1.
+/// Master 8 goes to sleep by a message from its box, beside one of 1.
 const SLEEPING_LATER: &str = "ipi 1 21
 boot 108 0
 post 8 7 108 0 0 0 0
@@ -54,7 +54,7 @@ serve
 wfi 108
 ";
 
-/// Master 8 begins to sleep, and master 1 wakes it: in one line, and in two.
+/// Master 8 starts its suspend, and master 1 wakes it: both by one line, and by two lines.
 const WOKEN: &str = "boot 108 0
 post 8 7 108 0 0 0 0
 post 1 10 108 0 0 2
@@ -68,10 +68,10 @@ post 1 10 108 0 0 2
 serve
 ";
 
-/// The object, the master that is left out, the script, and the whole text.
+/// A case: the object, the master that is left out, the script, and the whole text.
 type Case = (&'static [u32], u32, &'static str, &'static str);
 
-/// What master 8 reaches has number 8 once, as that of a master.
+/// In the reach of master 8 the number 8 comes once, as that of the master.
 static CASES: [Case; 8] = [
     (
         SMALL_OBJECT,
@@ -123,7 +123,7 @@ differ proc 108
 steps 7
 ",
     ),
-    // after the line the processor has the mode that it had before
+    // after the line the processor has the mode that it had before it
     (
         WAKING,
         8,
@@ -143,7 +143,7 @@ differ proc 108
 steps 5
 ",
     ),
-    // without the message of 1 it doesn't
+    // without the message of 1 it stays suspending
     (
         WAKING,
         1,
@@ -185,7 +185,8 @@ fn compared_over(
     }
 }
 
-/// Compares the two runs of a script over the object of these words, where the number is that of a master of it.
+/// Compares the two runs of a script over the object of these words; None if the number isn't that of one of its
+/// masters.
 fn compared(
     alloc: Global,
     words: &[u32],
@@ -202,7 +203,7 @@ fn compared(
     }
 }
 
-/// Whether the runs of a script are compared to the end, and this text is put out.
+/// Whether the runs of a script are compared to the end, with this text.
 fn is_told(alloc: Global, words: &[u32], m: u32, script: &str, text: &str) -> Result<bool, Fail> {
     let (mut inputs, mut out) = with(inputs_of(alloc, script)?, MemSink::new(alloc, None))?;
     let exit = compared(alloc, words, m, &mut inputs, &mut out);
@@ -212,7 +213,7 @@ fn is_told(alloc: Global, words: &[u32], m: u32, script: &str, text: &str) -> Re
     Ok(exit? == Some(Exit::Done) && is_written)
 }
 
-/// The place of the first case that isn't compared to the end, or of which not that text is put out.
+/// The index of the first case that isn't compared to the end, or has another text.
 fn wrong_case(alloc: Global) -> Result<Option<usize>, Fail> {
     for (place, (words, m, script, text)) in CASES.iter().enumerate() {
         if !is_told(alloc, words, *m, script, text)? {

@@ -1,4 +1,4 @@
-//! Tests of the comparison of two runs over a small chip, in which a number is one master's node and another unit's.
+//! Tests of the comparison of two runs over a small chip, in which one number is a master's node and another unit's.
 #![tactic(auto)]
 
 #[cfg(test)]

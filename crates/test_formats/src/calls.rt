@@ -9,8 +9,8 @@ const NODE: NodeId = NodeId(22);
 
 const ACK: u32 = 3;
 
-/// The number of a call, the call that it makes with the arguments 22, 7, 5, 3 and 2, and how it is
-/// acknowledged.
+/// A row: the number of a call, the call that it makes with the arguments 22, 7, 5, 3 and 2, its acknowledge kind,
+/// and the node of its acknowledgement.
 static CALLS: [(u32, Call, AckKind, NodeId); 22] = [
     (0, Call::Unknown, AckKind::Blocking, NodeId(0)),
     (1, Call::GetApiVersion, AckKind::Blocking, NodeId(0)),
@@ -179,7 +179,7 @@ fn a_message_makes_a_call(rt: HostRuntime) {
     all_right(&rt, wrong_call());
 }
 
-/// The acknowledge argument of a request to suspend, and how the request is acknowledged.
+/// A row: the acknowledge argument of a request to suspend, and the acknowledge kind.
 static KINDS: [(u32, AckKind); 5] = [
     (0, AckKind::Blocking),
     (1, AckKind::No),
@@ -201,7 +201,8 @@ fn wrong_kind() -> Option<usize> {
     None
 }
 
-/// The low and the high word of a wake-up, and its address: bit 0 says that there is one, and is no part of it.
+/// A row: the low and the high word of a wake-up, and its address. Bit 0 tells whether there is an address, and is no
+/// part of it.
 static ADDRESSES: [(u32, u32, Option<u64>); 8] = [
     (0, 0, None),
     (1, 0, Some(0)),

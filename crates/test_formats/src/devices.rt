@@ -1,4 +1,4 @@
-//! The devices in memory, driven as any device.
+//! The devices in memory, driven through the trait of devices.
 
 use crate::chip::chip;
 use crate::rows::{all_right, boxed};
@@ -28,8 +28,8 @@ fn line(number: u32) -> Unit {
     Unit::Line(LineId(number))
 }
 
-/// What is done to a device: a command on a node or a reset line with its value and whether it is
-/// taken, or a node that is broken or mended.
+/// An act on a device: a command on a node or a reset line, with its value and whether it is expected to be taken; or
+/// a node that is broken or mended.
 #[derive(Clone, Copy)]
 enum Act {
     Node(u32, u32, bool),
@@ -37,7 +37,7 @@ enum Act {
     Rig(u32, bool),
 }
 
-/// Does an act to any device, and answers whether it goes as is said.
+/// Does an act to any device. Returns whether it goes as expected.
 fn goes<D: Device>(device: &mut D, act: Act) -> bool {
     let (unit, value, taken) = match act {
         Act::Node(number, value, taken) => (node(number), value, taken),
@@ -50,7 +50,7 @@ fn goes<D: Device>(device: &mut D, act: Act) -> bool {
     device.command(Command { unit, value }).is_ok() == taken
 }
 
-/// Drives any device.
+/// The index of the first act on any device that doesn't go as expected.
 fn wrong_act<D: Device>(device: &mut D, acts: &[Act]) -> Option<usize> {
     for (place, act) in acts.iter().enumerate() {
         if !goes(device, *act) {
@@ -60,7 +60,7 @@ fn wrong_act<D: Device>(device: &mut D, acts: &[Act]) -> Option<usize> {
     None
 }
 
-/// A device that fails on broken nodes and on units that the chip doesn't have.
+/// Acts on a device that fails on broken nodes, and on units that the chip lacks.
 static MODEL: [Act; 16] = [
     Act::Node(62, 1, true),
     Act::Node(28, 1, true),
@@ -80,7 +80,7 @@ static MODEL: [Act; 16] = [
     Act::Node(70, 1, false),
 ];
 
-/// Units, and the values at which they then stand.
+/// Units with their values after these acts.
 static MODEL_VALUES: [(Unit, u32); 7] = [
     (Unit::Node(NodeId(62)), 3),
     (Unit::Node(NodeId(28)), 0),
@@ -109,7 +109,7 @@ fn a_model_fails_on_broken_nodes_and_unknown_units(rt: HostRuntime) -> Result<()
     Ok(())
 }
 
-/// A device that fails the commands 2 and 5, and on a line that the chip doesn't have.
+/// Acts on a device that fails the commands 2 and 5, and commands on a line that the chip lacks.
 static LISTED: [Act; 7] = [
     Act::Node(62, 1, true),
     Act::Node(62, 2, false),
@@ -144,7 +144,7 @@ fn a_listed_device_fails_at_its_numbers(rt: HostRuntime) -> Result<(), Fail> {
     Ok(())
 }
 
-/// The chip with a reset line more.
+/// The chip's topology with one reset line more.
 fn larger_chip(alloc: Global) -> Result<Box<Topology>, Fail> {
     let mut larger = chip(alloc)?;
     larger.lines.push(LineDef {
@@ -154,7 +154,7 @@ fn larger_chip(alloc: Global) -> Result<Box<Topology>, Fail> {
     Ok(larger)
 }
 
-/// What a device that was fitted to the larger chip takes, whatever was broken before.
+/// The acts that a device takes after it was fitted to the larger chip, whatever was broken before.
 static FITTED: [Act; 4] = [
     Act::Node(28, 9, true),
     Act::Line(62, 1, true),
@@ -175,7 +175,7 @@ fn a_fitted_model_has_the_units_of_its_chip(rt: HostRuntime) -> Result<(), Fail>
     Ok(())
 }
 
-/// The numbers of the commands go on.
+/// The numbers of commands go on after a fit.
 #[test]
 fn a_fitted_listed_device_fails_at_its_later_numbers(rt: HostRuntime) -> Result<(), Fail> {
     let mut device = listed(rt.alloc(), &[2])?;

@@ -6,7 +6,7 @@ use pm_io::{Inputs, MemInputs, MemSink, Prefix, Sink, StopReason, gather, write_
 use std::alloc::Global;
 use std::test::Fail;
 
-/// What is read under a name, two bytes at a time, and whether a read failed.
+/// The bytes that are read under a name, two at a time, and whether a read failed.
 fn read_all(alloc: Global, inputs: &mut MemInputs, name: &str) -> Result<(List<u8>, bool), Fail> {
     let mut got = List::new(alloc);
     let id = inputs.begin(name)?;
@@ -25,7 +25,7 @@ fn read_all(alloc: Global, inputs: &mut MemInputs, name: &str) -> Result<(List<u
     Ok((got, false))
 }
 
-/// Names of inputs that hold four bytes, what is read of each, and whether a read fails.
+/// A row: the name of an input that holds four bytes, the bytes that are read of it, and whether a read fails.
 static READINGS: [(&str, &str, bool); 5] = [
     ("middle", "abc", true),
     ("end", "abcd", true),
@@ -34,7 +34,7 @@ static READINGS: [(&str, &str, bool); 5] = [
     ("front", "", true),
 ];
 
-/// The inputs, none of which is there before it is added.
+/// The inputs of `READINGS`, of which some fail at a byte. No name may be there before it is added.
 fn failing_inputs(alloc: Global) -> Result<MemInputs, Fail> {
     let mut inputs = MemInputs::new(alloc, &[(0, 7), (0, 3), (1, 4), (2, 5), (4, 0)])?;
     for (name, _, _) in &READINGS {
@@ -63,9 +63,8 @@ fn reads_stop_at_the_failing_byte(rt: HostRuntime) -> Result<(), Fail> {
     Ok(())
 }
 
-/// What is read of `abcd` under a name up to a limit: the bytes, those that belong to lines of a text, and
-/// why no more are read. Reads fail at the first byte of `front`, and
-/// at the end of `end`.
+/// A row for `abcd`: a name, a limit, the bytes that are read, those of them that belong to lines of a text, and why
+/// no more are read. Reads fail at the first byte of `front`, and at the end of `end`.
 static PREFIXES: [(&str, u32, &str, &str, StopReason); 8] = [
     ("none", 5, "abcd", "abcd", StopReason::End),
     ("none", 4, "abcd", "abcd", StopReason::End),
@@ -77,7 +76,7 @@ static PREFIXES: [(&str, u32, &str, &str, StopReason); 8] = [
     ("missing", 4, "", "", StopReason::Unbegun),
 ];
 
-/// What is read of a name, of which nothing is said.
+/// The bytes that are read of a name up to a limit, and why no more are; without a contract.
 fn prefix_of(
     alloc: Global,
     inputs: &mut MemInputs,
@@ -118,7 +117,7 @@ fn a_prefix_ends_at_the_limit_or_at_the_failing_byte(rt: HostRuntime) -> Result<
     Ok(())
 }
 
-/// Names that are begun in turn, and the number of each that can be begun.
+/// A row: a name that is opened in turn, and the number of the input, if it can be opened.
 static BEGUN: [(&str, Option<u32>); 18] = [
     ("b", None),
     ("a", Some(0)),
@@ -149,7 +148,8 @@ fn wrong_begin(inputs: &mut MemInputs) -> Option<usize> {
     None
 }
 
-/// Numbers of inputs that hold three bytes, and what is read of each in turn into four bytes.
+/// A row: the number of an input that holds three bytes, and what a read into four bytes returns and leaves there, in
+/// turn.
 static READS: [(u32, Option<usize>, [u8; 4]); 3] = [
     (16, Some(0), [0, 0, 0, 0]),
     (15, Some(3), [b'x', b'y', b'z', 0]),
@@ -176,7 +176,7 @@ fn sixteen_inputs_can_be_begun(rt: HostRuntime) -> Result<(), Fail> {
     Ok(())
 }
 
-/// The room of a sink, whether two pieces are taken whole, and what was taken.
+/// A row: the room of a sink, whether each of two pieces is taken whole, and the bytes that were taken.
 static ROOMS: [(Option<u32>, bool, bool, &str); 6] = [
     (Some(0), false, false, ""),
     (Some(2), false, false, "ab"),

@@ -8,7 +8,7 @@ use pm_ipi::Mail;
 use std::alloc::Global;
 use std::test::Fail;
 
-/// What is done to a box, and what is answered. A message is told by the number of its call.
+/// An act on a box with the expected outcome. A message is known by the number of its call.
 #[derive(Clone, Copy)]
 enum Act {
     Put(u32),
@@ -42,7 +42,7 @@ fn message_of(api: u32) -> Message {
     }
 }
 
-/// Whether an act on a box is answered as it says.
+/// Whether an act on a box has the expected outcome.
 fn is_answered(mail: &mut Mail, m: usize, act: Act) -> bool
     requires { m < length mail.old }
     ensures { length mail.new ≡ length mail.old }

@@ -26,7 +26,7 @@ const LONGER: &[u32] = &[
     0, 0x101, 33, 0, 0x1, 39, 0, 0x101, 46, 1, 0x101, 0x104, 1, 10, 0x100, 0x105, 1, 33, 0x1,
 ];
 
-/// A header word more than is needed.
+/// One header word more than needed.
 const EXTRA: &[u32] = &[3, 1, 1, 7, 0x101, 1, 1, 1, 100, 0, 0];
 
 /// Sections in another order.
@@ -34,7 +34,7 @@ const MIXED: &[u32] = &[
     2, 4, 1, 0x101, 1, 8, 4, 0, 0, 0, 0x108, 5, 0x107, 1, 2, 0x102, 0,
 ];
 
-/// The bytes of words, the lowest byte of each first.
+/// The bytes of these words, in little-endian order.
 fn bytes_of(alloc: Global, words: &[u32]) -> Result<Vec<u8>, Fail> {
     let mut bytes = Vec::new(alloc);
     for word in words {
@@ -43,7 +43,7 @@ fn bytes_of(alloc: Global, words: &[u32]) -> Result<Vec<u8>, Fail> {
     Ok(bytes)
 }
 
-/// The object that words spell, on the heap, so that a caller holds no more than where it is.
+/// The object that these words are, in a box, so that its holder is small.
 fn object_of(alloc: Global, words: &[u32]) -> Result<Box<Object>, Fail>
     ensures { IfOk result (λ object. IsObject object.value) }
 {
@@ -112,7 +112,7 @@ fn fault_of(alloc: Global, bytes: &[u8]) -> Option<(u32, u32)> {
     }
 }
 
-/// The bytes of words with others at some places.
+/// The bytes of words, some of which are replaced.
 fn changed(alloc: Global, words: &[u32], changes: &[(usize, u32)]) -> Result<Vec<u8>, Fail> {
     let mut words = Vec::from_slice(alloc, words)?;
     for (place, word) in changes {
@@ -123,7 +123,7 @@ fn changed(alloc: Global, words: &[u32], changes: &[(usize, u32)]) -> Result<Vec
     bytes_of(alloc, &words)
 }
 
-/// Other words at some places, the fault that they make, and its place.
+/// A case: the replaced words with their places, the fault, and its place.
 type Case = (&'static [(usize, u32)], u32, u32);
 
 /// Changes of the small object.
@@ -195,7 +195,7 @@ fn the_first_fault_and_its_place(rt: HostRuntime) -> Result<(), Fail> {
     Ok(())
 }
 
-/// The first length at which the bytes of an object of 23 words have another fault than a missing word.
+/// The first length at which the cut bytes of an object of 23 words have another fault than a missing word.
 fn wrong_length(alloc: Global, bytes: &[u8]) -> Option<usize> {
     for count in 0..92_u32 {
         let cause = if count % 4 == 0 { 3 } else { 1 };
@@ -215,7 +215,7 @@ fn each_length_up_to_the_whole(rt: HostRuntime) -> Result<(), Fail> {
     Ok(())
 }
 
-/// Numbers of zero bytes, and the fault.
+/// A row: a number of zero bytes, and their fault.
 static ZEROS: [(usize, u32, u32); 3] = [(16_385, 2, 4096), (16_384, 4, 0), (16_383, 1, 4095)];
 
 fn wrong_zeros(alloc: Global) -> Result<Option<usize>, Fail> {

@@ -11,7 +11,7 @@ const TWO_MASTERS: &str =
 const ALL_SECTIONS: &str =
     "header\nsection masters\nmaster 8 2 4294967295 2 2\nsection gpo\ngpo 5\nsection prealloc\ngroup 2\nprefer 11 2 1 1\nprefer 12 0 0 4\ngroup 3\nprefer 11 0 0 0\nsection config\nconfig 2 0\nsection shutdown\nshutdown 0 2\nsection reset\nreset 33 2\nsection power\npower 10 2\nsection slaves\n";
 
-/// A text, and what is printed of its object.
+/// A row: a text, and the printed text of its object.
 static GOOD: [(&str, &str); 6] = [
     (TWO_MASTERS, TWO_MASTERS),
     (ALL_SECTIONS, ALL_SECTIONS),
@@ -56,7 +56,7 @@ fn texts_are_built_and_printed(rt: HostRuntime) -> Result<(), Fail> {
     Ok(())
 }
 
-/// A text, its first bad line, and the first cause there.
+/// A row: a text, its first bad line, and the first cause there.
 static BAD: [(&str, u32, TextCause); 25] = [
     ("section masters\n", 1, TextCause::Place),
     ("", 1, TextCause::Place),
@@ -180,7 +180,7 @@ fn the_first_bad_line_is_answered(rt: HostRuntime) {
     all_right(&rt, wrong_fault(rt.alloc()));
 }
 
-/// Numbers of spaces, and the fault.
+/// A row: a number of spaces, and their fault.
 static SPACES: [(usize, u32, TextCause); 3] = [
     (255, 2, TextCause::Place),
     (256, 1, TextCause::Form),
@@ -215,7 +215,7 @@ fn text_of_slaves(alloc: Global, count: u32) -> Result<String, AllocError> {
     Ok(text)
 }
 
-/// Whether a text of the longest object is printed as it is.
+/// Whether the text of the longest object is printed as it was.
 fn is_printed(alloc: Global) -> Result<bool, Fail> {
     let whole = text_of_slaves(alloc, 1361)?;
     Ok(printed(alloc, whole.as_str())?.as_slice() == whole.as_bytes())

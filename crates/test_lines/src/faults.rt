@@ -1,4 +1,4 @@
-//! The first fault of a line of a script.
+//! The first fault of a script line.
 
 use crate::rows::all_right;
 use pm_script::{LineFault, parse_line};
@@ -9,7 +9,7 @@ const SPACES: &[u8] = &[b' '; 256];
 
 const ZEROS: &[u8] = &[0; 256];
 
-/// A line, and the first of its faults.
+/// A line, and its first fault.
 static FAULTS: [(&[u8], LineFault); 97] = [
     (b"object", LineFault::Count),
     (b"object x", LineFault::Number),
@@ -125,7 +125,7 @@ fn a_line_has_its_first_fault(rt: HostRuntime) {
     all_right(&rt, wrong_fault());
 }
 
-/// How a line begins, and its fault where it goes on with spaces up to the greatest length.
+/// The beginning of a line, and its fault if spaces fill it up to the greatest length.
 static STARTS: [(&[u8], LineFault); 6] = [
     (b"wfi \x80", LineFault::NotAscii),
     (b"wait", LineFault::Unknown),

@@ -1,4 +1,4 @@
-//! Tests of lines: how they are taken of an input, their words and numbers, and what a line of a script means.
+//! Tests of lines: how they are read from an input, their words and numbers, and the events of script lines.
 #![tactic(auto)]
 
 #[cfg(test)]

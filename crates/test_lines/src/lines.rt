@@ -1,4 +1,4 @@
-//! What a line of a script means.
+//! The events of script lines.
 
 use crate::rows::all_right;
 use pm_base::{Event, Message, NodeId};
@@ -64,8 +64,7 @@ fn a_line_boots_a_processor(rt: HostRuntime) {
     all_right(&rt, wrong_boot());
 }
 
-/// A line, and what happens in it: a processor waits for an interrupt, a slave raises its own, or there is one at a
-/// processor itself.
+/// A line, and its event: the wait of a processor, the interrupt of a slave, or that of a processor itself.
 fn waits_and_interrupts() -> [(&'static [u8], Event); 9] {
     [
         (b"wfi 7", Event::Wfi { proc: NodeId(7) }),
@@ -95,7 +94,7 @@ fn waits_and_interrupts() -> [(&'static [u8], Event); 9] {
     ]
 }
 
-/// A line, and what happens in it: a master puts a message into its box, or the boxes are served.
+/// A line, and its event: a message for a box, or the service of the boxes.
 fn posts() -> [(&'static [u8], Event); 5] {
     [
         (
@@ -133,7 +132,7 @@ fn posts() -> [(&'static [u8], Event); 5] {
     ]
 }
 
-/// A line, and what happens in it: a processor makes a power call.
+/// A line, and its event: the power call of a processor.
 fn power_calls() -> [(&'static [u8], Event); 3] {
     [
         (
@@ -163,7 +162,7 @@ fn power_calls() -> [(&'static [u8], Event); 3] {
     ]
 }
 
-/// A line, and what happens in it: a timed task is started or taken out, or a node breaks or is mended.
+/// A line, and its event: the start or end of a timed task, or a node that breaks or is mended.
 fn tasks_and_breaks() -> [(&'static [u8], Event); 7] {
     [
         (
@@ -212,7 +211,7 @@ fn a_line_is_an_event(rt: HostRuntime) {
     all_right(&rt, wrong_event(&tasks_and_breaks()));
 }
 
-/// A line that attaches words, the address, and the words.
+/// A line that attaches words, its address, and the words.
 static ATTACHED: [(&[u8], u32, &[u32]); 5] = [
     (b"object 8", 8, &[]),
     (b"object 8 1", 8, &[1]),
@@ -270,7 +269,7 @@ fn a_line_attaches_words(rt: HostRuntime) {
     all_right(&rt, wrong_attached());
 }
 
-/// Lines in which nothing happens.
+/// Lines without an event.
 static EMPTY: [&[u8]; 4] = [b"", b" \t # \t ipi 1", b"\r", &[b' '; 255]];
 
 fn wrong_empty() -> Option<usize> {

@@ -1,25 +1,25 @@
-//! What a reader answers, call by call.
+//! The results of a reader, call by call.
 
 use pm_io::{Inputs, MemInputs};
 use pm_reader::{LineBuf, LineReader, Taken};
 use std::alloc::Global;
 use std::test::Fail;
 
-/// A text, so many times.
+/// A text, repeated so often.
 type Piece = (u32, &'static str);
 
-/// So many times the same answer, and the line that comes with it: a text so many times.
+/// A result of a reader that comes so often, and its line: a text repeated so often.
 type Answers = (u32, Taken, Piece);
 
-/// What an input holds, the limit, the byte at which its reads fail (none where it is past the end), and all answers to the
-/// one that ends it.
+/// A case: the content of an input, the limit, the byte at which its reads fail (none if it is past the end), and all
+/// results up to the one that ends it.
 type Case = (&'static [Piece], u32, u32, &'static [Answers]);
 
 const NEVER: u32 = 1_000_000;
 
 const NOTHING: Piece = (0, "");
 
-/// Lines and their ends.
+/// Lines, and the ends of lines.
 static LINES: [Case; 8] = [
     (&[], 100, NEVER, &[(1, Taken::End, NOTHING)]),
     (
@@ -104,7 +104,7 @@ static LONG: [Case; 5] = [
     ),
 ];
 
-/// Lines that end before, at and behind the end of a window of 4,096 bytes.
+/// Lines that end before, at and after the end of a window of 4,096 bytes.
 static WINDOWS: [Case; 5] = [
     (
         &[(1000, "0123456789\n"), (1, "end")],
@@ -190,7 +190,7 @@ static LIMITS: [Case; 7] = [
     (&[(256, "x")], 255, NEVER, &[(1, Taken::Over, NOTHING)]),
 ];
 
-/// A read fails: the whole lines before it come first, and a line that isn't whole is none.
+/// A read fails. The whole lines before it come first; a line that isn't whole is none.
 static FAULTS: [Case; 7] = [
     (&[(1, "ab\ncd\n")], 100, 0, &[(1, Taken::Fault, NOTHING)]),
     (&[(1, "ab\ncd\n")], 100, 2, &[(1, Taken::Fault, NOTHING)]),
@@ -230,7 +230,7 @@ fn text_of(alloc: Global, pieces: &[Piece]) -> Result<Vec<u8>, Fail> {
     Ok(text)
 }
 
-/// Whether a reader gives another answer than the one that is wanted, or another line.
+/// Whether a reader gives another result or another line than expected.
 fn is_wrong(
     reader: &mut LineReader,
     inputs: &mut MemInputs,
@@ -242,7 +242,7 @@ fn is_wrong(
     reader.next(inputs, id, &mut line) != want || line.as_slice() != text
 }
 
-/// The row of answers of which one isn't the one that is wanted.
+/// The row of results of which one isn't as expected.
 fn wrong_answer(alloc: Global, case: &Case) -> Result<Option<usize>, Fail> {
     let (pieces, limit, fails_at, answers) = case;
     let mut inputs = MemInputs::new(alloc, &[(0, *fails_at)])?;
@@ -260,7 +260,7 @@ fn wrong_answer(alloc: Global, case: &Case) -> Result<Option<usize>, Fail> {
     Ok(None)
 }
 
-/// The case that isn't answered as wanted, and the answer.
+/// The case with an unexpected result, and that result.
 fn wrong_case(alloc: Global, cases: &[Case]) -> Result<Option<(usize, usize)>, Fail> {
     for (place, case) in cases.iter().enumerate() {
         if let Some(answer) = wrong_answer(alloc, case)? {

@@ -1,4 +1,4 @@
-//! The lines of a script by which time passes.
+//! The script lines by which time passes.
 
 use crate::rows::all_right;
 use pm_base::Event;
@@ -8,7 +8,7 @@ const COUNT: Result<u32, LineFault> = Err(LineFault::Count);
 
 const NUMBER: Result<u32, LineFault> = Err(LineFault::Number);
 
-/// A line, and how much time passes in it.
+/// A line, and the time that passes in it.
 static TICKS: [(&[u8], Result<u32, LineFault>); 15] = [
     (b"tick 99", Ok(99)),
     (b"tick 0", Ok(0)),
@@ -36,7 +36,7 @@ fn wrong_tick() -> Option<usize> {
     None
 }
 
-/// Whether a line means that so much time passes, or has this fault.
+/// Whether a line lets so much time pass, or has this fault.
 fn means(parsed: Result<Event, LineFault>, meaning: Result<u32, LineFault>) -> bool {
     match (parsed, meaning) {
         (Ok(Event::Tick { count }), Ok(expected)) => count == expected,

@@ -3,7 +3,7 @@
 use crate::rows::all_right;
 use pm_io::{Ending, number, split_line, word};
 
-/// A line, the place of a word, and where the word begins and ends.
+/// A line, the place of a word, and the places at which the word begins and ends.
 static WORDS: [(&str, usize, Option<(usize, usize)>); 16] = [
     ("ipi 1 2", 0, Some((0, 3))),
     ("ipi 1 2", 1, Some((4, 5))),
@@ -23,7 +23,7 @@ static WORDS: [(&str, usize, Option<(usize, usize)>); 16] = [
     ("", 0, None),
 ];
 
-/// The place of the first row that is wrong.
+/// The index of the first wrong row.
 fn wrong_word() -> Option<usize> {
     for (place, (line, k, want)) in WORDS.iter().enumerate() {
         if word(line.as_bytes(), *k) != *want {
@@ -38,7 +38,7 @@ fn words_of_a_line(rt: HostRuntime) {
     all_right(&rt, wrong_word());
 }
 
-/// A word, the greatest number that is taken, and the number.
+/// A word, the greatest number that is accepted, and its number.
 static NUMBERS: [(&str, u64, Option<u64>); 24] = [
     ("0", 0, Some(0)),
     ("007", 7, Some(7)),
@@ -84,7 +84,7 @@ const LONG: &[u8] = &[b'#'; 256];
 
 const SHORTER: &[u8] = &[b'#'; 255];
 
-/// A text, whether it is whole, and its first line with what follows.
+/// A text, whether its first line is whole, and that line with all that follows.
 static SPLITS: [(&[u8], Ending, Option<(&[u8], &[u8])>); 9] = [
     (b"", Ending::Whole, None),
     (b"\n", Ending::Whole, Some((b"", b""))),

@@ -3,13 +3,14 @@
 use pm_io::{Inputs, OneInput};
 use std::test::Fail;
 
-/// Numbers, and what is read of each in turn into four bytes, before any name was begun.
+/// A row: the number of an input, and what a read into four bytes returns and leaves there, before any name was
+/// opened.
 static BEFORE: [(u32, &str); 2] = [(0, ""), (1, "")];
 
-/// Such numbers and reads after a name was begun: the input holds `abcdef`.
+/// Such rows after a name was opened: the input holds `abcdef`.
 static AFTER: [(u32, &str); 5] = [(0, "abcd"), (1, ""), (0, "ef"), (0, ""), (16, "")];
 
-/// Such numbers and reads after another name was begun.
+/// Such rows after another name was opened.
 static AGAIN: [(u32, &str); 2] = [(0, "abcd"), (0, "ef")];
 
 fn wrong_read(input: &mut OneInput, reads: &[(u32, &str)]) -> Option<usize> {

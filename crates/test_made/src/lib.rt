@@ -1,5 +1,5 @@
-//! Tests of the input that the program makes itself: the laboratory's object, the script, the summary of its run, and the
-//! one input in memory.
+//! Tests of the inputs that the program generates: the laboratory's object, the script, the summary of its run, and
+//! the one input in memory.
 #![tactic(auto)]
 
 #[cfg(test)]

@@ -1,10 +1,10 @@
-//! Scripts that are made from a number.
+//! Scripts that are generated for a number of lines.
 
 use pm_gen::make;
 use std::alloc::Global;
 use std::test::Fail;
 
-/// Numbers, and the whole script of each.
+/// Numbers of lines, and the whole script of each.
 static SCRIPTS: [(u32, &str); 4] = [
     (1, "ipi 1 21\nboot 7 0\nipi 7 14 39\n"),
     (2, "ipi 1 21\nboot 7 0\nipi 1 15 39 0 0 2\nirq 46\n"),
@@ -12,7 +12,7 @@ static SCRIPTS: [(u32, &str); 4] = [
     (24, TWENTY_FOUR),
 ];
 
-/// The script of 24.
+/// The script of 24 lines.
 const TWENTY_FOUR: &str =
     "ipi 1 21\nboot 7 0\nboot 7 0\nipi 1 13 39 1 0 2\nipi 7 13 33 1 0 2\nboot 7 0\nwfi 2\nipi 1 15 46 0 0 2\nboot 7 0\nipi 7 15 11 1 0 2\nipi 1 7 2 0 0 0 0\nirq 46\nipi 1 13 11 1 0 2\nipi 7 13 39 1 0 2\nipi 7 14 11\nipi 1 13 11 1 0 2\nipi 1 14 11\nipi 7 13 11 1 0 2\nipi 1 11 2 46 1\nipi 1 13 11 1 0 2\nirq 46\ngic 2\nipi 1 14 11\nipi 1 14 46\nboot 7 0\nwfi 2\n";
 
@@ -31,7 +31,7 @@ fn scripts_are_the_same_each_time(rt: HostRuntime) -> Result<(), Fail> {
     Ok(())
 }
 
-/// Numbers, how many bytes the script of each has, and its last line.
+/// Numbers of lines, the length of each script in bytes, and its last line.
 static SIZES: [(u32, usize, &str); 2] = [
     (2_000, 26_647, "ipi 7 13 11 1 0 2\n"),
     (200_000, 2_672_055, "ipi 1 13 11 1 0 2\n"),

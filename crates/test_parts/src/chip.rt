@@ -6,7 +6,7 @@ use pm_topology::Topology;
 use std::alloc::Global;
 use std::test::Fail;
 
-/// The chip, of which nothing is said.
+/// The chip's topology, without a contract: the tests need none.
 pub(crate) fn chip(alloc: Global) -> Result<Box<Topology>, Fail> {
     Ok(boxed(alloc, zynqmp(alloc)?)?)
 }

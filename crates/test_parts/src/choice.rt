@@ -1,4 +1,4 @@
-//! The state of a slave that meets the requirements in force.
+//! The chosen state of a slave.
 
 ghost use Rattle.std.specs.Prelude.{◌≤◌, IfOk, length};
 ghost use Rattle.pm_slaves.specs.Choice.{LastHas};
@@ -11,7 +11,7 @@ use pm_topology::{SlaveState, Topology};
 use std::alloc::Global;
 use std::test::Fail;
 
-// The place of a slave of each class.
+// the place of a slave of each class
 const MEMORY: usize = 0;
 
 const BLOCK: usize = 9;
@@ -22,7 +22,7 @@ const EXTERNAL: usize = 38;
 
 const DRAM: usize = 44;
 
-// The limits on the latency around those of the class.
+// the limits on the latency, around those of the class
 const OF_MEMORY: &[Option<u32>] = &[None, Some(0), Some(299), Some(300), Some(999), Some(1000)];
 
 const OF_DRAM: &[Option<u32>] = &[None, Some(0), Some(499), Some(500), Some(4999), Some(5000)];
@@ -31,7 +31,7 @@ const OF_PERIPHERAL: &[Option<u32>] = &[None, Some(0), Some(1), Some(99), Some(1
 
 const OF_BLOCK: &[Option<u32>] = &[None, Some(0), Some(1), Some(199), Some(200), Some(201)];
 
-/// A slave by its place, a capability set, limits, and the state for each of them. ACCESS is 1,
+/// A row: the place of a slave, a set of capabilities, limits, and the chosen state for each of them. ACCESS is 1,
 /// CONTEXT 2, WAKEUP 4.
 static CHOICES: [(usize, u32, &[Option<u32>], [usize; 6]); 21] = [
     (MEMORY, 0, OF_MEMORY, [0, 2, 2, 1, 1, 0]),
@@ -57,7 +57,7 @@ static CHOICES: [(usize, u32, &[Option<u32>], [usize; 6]); 21] = [
     (EXTERNAL, 7, OF_BLOCK, [0, 0, 0, 0, 0, 0]),
 ];
 
-/// The states of the slave at a place, and none if there is no slave.
+/// The states of the slave at a place; none if there is no slave.
 fn states(chip: &Topology, place: usize) -> &[SlaveState] {
     match chip.slaves.as_slice().get(place) {
         Some(slave) => slave.states.as_slice(),
@@ -65,7 +65,7 @@ fn states(chip: &Topology, place: usize) -> &[SlaveState] {
     }
 }
 
-/// Whether the state for each limit is the wanted one.
+/// Whether the chosen state for each limit is as expected.
 fn are_chosen(states: &[SlaveState], caps: u32, limits: &[Option<u32>], wanted: &[usize]) -> bool {
     for (k, limit) in limits.iter().enumerate() {
         if first_that_meets(states, Caps(caps), *limit) != wanted.get(k).copied() {
@@ -91,7 +91,7 @@ fn each_class_takes_its_least_state(rt: HostRuntime) -> Result<(), Fail> {
     Ok(())
 }
 
-/// A slave by its place, and a capability set that it lacks.
+/// A row: the place of a slave, and a set of capabilities that it lacks.
 static LACKED: [(usize, u32); 12] = [
     (MEMORY, 4),
     (MEMORY, 5),
@@ -126,7 +126,7 @@ fn a_capability_that_the_slave_lacks_is_met_by_no_state(rt: HostRuntime) -> Resu
     Ok(())
 }
 
-/// Two states, of which the last one has ACCESS and CONTEXT at once.
+/// Two states, the last of which has ACCESS and CONTEXT.
 fn two_states(alloc: Global) -> Result<List<SlaveState>, NoMemory>
     ensures few { IfOk result (λ states. length states ≤ 4) }
     ensures none { IfOk result (λ states. LastHas states 0) }

@@ -1,4 +1,4 @@
-//! Which power nodes are up.
+//! The power nodes that are up.
 
 ghost use Rattle.std.specs.Prelude.{◌≡◌, ◌<◌, IfOk, length};
 
@@ -14,7 +14,7 @@ use std::test::Fail;
 /// The processors of the chip, and a slave directly below each of LPD, the RPU's island, FPD and PLD.
 const CHILDREN: [u32; 10] = [2, 3, 4, 5, 7, 8, 11, 15, 19, 63];
 
-/// The forest of the chip, which has five power nodes.
+/// The forest of the chip's five power nodes.
 fn forest(rt: &(impl Abort + AllocGlobal)) -> Result<Box<Power>, NoMemory>
     ensures { IfOk result (λ power. length power.value.powers ≡ 5) }
 {
@@ -24,7 +24,7 @@ fn forest(rt: &(impl Abort + AllocGlobal)) -> Result<Box<Power>, NoMemory>
     boxed(rt.alloc(), power)
 }
 
-/// Which of PLD, FPD, LPD, the APU's island and the RPU's are up.
+/// Whether PLD, FPD, LPD, the APU's island and the RPU's are up.
 fn ups(power: &Power) -> [bool; 5] {
     [
         power.needs(NodeId(9)),
@@ -58,7 +58,7 @@ fn has_one(subset: u32, places: &[u32]) -> bool {
         .any(|place| *place < 10 && (subset >> *place) & 1 == 1)
 }
 
-/// Sets the needs of a subset of the children, and answers whether all are then as they were set.
+/// Sets the needs of the children to those of a subset. Returns whether all are then as they were set.
 fn set_needs<L: Ledger>(power: &mut Power, subset: u32, steps: &mut Steps<L>) -> bool {
     for (place, child) in CHILDREN.into_iter().enumerate() {
         let on = (subset >> place) & 1 == 1;
@@ -70,7 +70,7 @@ fn set_needs<L: Ledger>(power: &mut Power, subset: u32, steps: &mut Steps<L>) ->
     true
 }
 
-/// Which power nodes are up under the needs of a subset.
+/// The power nodes that are up under the needs of a subset.
 fn wanted(subset: u32) -> [bool; 5] {
     let apu = has_one(subset, &[0, 1, 2, 3]);
     [
@@ -89,7 +89,7 @@ fn power_nodes_follow_each_subset_of_needs(rt: HostRuntime) -> Result<(), Fail> 
     Ok(())
 }
 
-/// The first subset of needs under which other power nodes are up.
+/// The first subset of needs under which other power nodes are up than expected.
 fn wrong_subset<L: Ledger>(power: &mut Power, blank: Blank) -> Option<usize>
     requires name { blank.name ≡ L.name }
     requires parts { blank.parts ≡ L.parts }

@@ -11,15 +11,15 @@ const CHANGE: NodeEvent = NodeEvent::Change;
 
 const ZERO_USERS: NodeEvent = NodeEvent::ZeroUsers;
 
-/// What is done with the notifiers and slots of three masters, and what is expected.
+/// An act on the notifiers and slots of three masters, with the expected outcome.
 enum Action {
-    /// A master, a node and an event: the notifier is put on or off.
+    /// Sets or removes the notifier of a master for an event of a node.
     Put(usize, u32, NodeEvent, bool),
-    /// A master, a node and an event: whether it is asked for.
+    /// Whether a master has a notifier for an event of a node.
     Asked(usize, u32, NodeEvent, bool),
     /// A note waits for a master about a node.
     Wait(usize, u32, Note),
-    /// A master takes this note about a node.
+    /// A master takes its next note, which is this one.
     Takes(usize, u32, Note),
     /// Nothing waits for a master.
     Empty(usize),
@@ -29,7 +29,7 @@ enum Action {
     Forget,
 }
 
-/// Notifiers: each is on or off by itself, and cleared with its master's.
+/// Notifiers: each is set and removed by itself, and removed with its master's.
 static NOTIFIERS: [Action; 29] = [
     Action::Asked(0, 11, CHANGE, false),
     Action::Put(0, 11, CHANGE, true),
@@ -63,8 +63,8 @@ static NOTIFIERS: [Action; 29] = [
     Action::Asked(0, 62, CHANGE, true),
 ];
 
-/// Notes are taken by the number of their node and then by their kind: power node 1 comes before processor 2
-/// and slave 11, though the chip's tables have processors and slaves in other places.
+/// Notes are taken by the number of their node and then by their kind: power node 1 comes before processor 2 and
+/// slave 11, though the chip's tables have them in another order.
 static ORDER: [Action; 22] = [
     Action::Empty(1),
     Action::Wait(1, 33, Note::Change),
@@ -82,7 +82,7 @@ static ORDER: [Action; 22] = [
     Action::Takes(1, 10, Note::Change),
     Action::Takes(1, 11, Note::Ack { status: 2005 }),
     Action::Takes(1, 11, Note::Change),
-    // a note that comes while others are taken stands in its place
+    // a note that comes while others are taken is in its place
     Action::Wait(1, 1, Note::ZeroUsers),
     Action::Takes(1, 1, Note::ZeroUsers),
     Action::Takes(1, 11, Note::ZeroUsers),
@@ -91,7 +91,7 @@ static ORDER: [Action; 22] = [
     Action::Empty(1),
 ];
 
-/// One slot for each master, node and kind: the last note counts, and no other slot notices.
+/// One slot for each master, node and kind: the last note counts, and no other slot is touched.
 static SLOTS: [Action; 36] = [
     Action::Wait(0, 33, Note::Ack { status: 0 }),
     Action::Wait(0, 33, Note::Ack { status: 2006 }),
@@ -111,7 +111,7 @@ static SLOTS: [Action; 36] = [
     Action::Wait(3, 33, Note::Change),
     Action::Empty(0),
     Action::Empty(3),
-    // what was asked for stays when notes are taken, and a cleared master loses both
+    // notifiers stay when notes are taken, and a cleared master loses both
     Action::Put(1, 33, CHANGE, true),
     Action::Wait(1, 33, Note::Change),
     Action::Wait(2, 33, Note::Change),
@@ -141,7 +141,7 @@ fn is_taken(taken: Option<Waiting>, node: u32, note: Note) -> bool {
     }
 }
 
-/// Does what a row says, and answers whether what comes is expected.
+/// Does the act of a row. Returns whether the outcome is as expected.
 fn is_right(notify: &mut Notify, action: &Action) -> bool {
     match action {
         Action::Put(master, node, event, on) => {
@@ -168,7 +168,7 @@ fn is_right(notify: &mut Notify, action: &Action) -> bool {
     }
 }
 
-/// The place of the first row that comes to something else.
+/// The index of the first row with another outcome.
 fn wrong_action(notify: &mut Notify, actions: &[Action]) -> Option<usize> {
     for (place, action) in actions.iter().enumerate() {
         if !is_right(notify, action) {
@@ -178,7 +178,7 @@ fn wrong_action(notify: &mut Notify, actions: &[Action]) -> Option<usize> {
     None
 }
 
-/// Nothing for three masters of the chip.
+/// Empty notifiers and slots for three masters of the chip.
 fn notifiers(alloc: Global) -> Result<Box<Notify>, Fail> {
     let chip = chip(alloc)?;
     let notify = Notify::load(alloc, &chip, 3)?;

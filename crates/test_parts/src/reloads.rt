@@ -1,4 +1,4 @@
-//! The requirement rows as they are at load: changed each by its own call, and made anew.
+//! The requirement rows at load: after each was changed by its own call, and after they were made anew.
 
 ghost use Rattle.std.specs.Prelude.{◌≡◌, ◌<◌, ◌≤◌, IfOk};
 
@@ -33,7 +33,7 @@ static SEEDS: [RowSeed; 2] = [
     },
 ];
 
-/// The rows of that, with room for so many.
+/// The rows of these masters, with room for so many.
 fn loaded(alloc: Global, room: usize) -> Result<Box<Rows>, NoMemory>
     requires { 2 ≤ room }
     ensures room { IfOk result (λ rows. rows.value.room ≡ room) }
@@ -70,7 +70,7 @@ fn modes(rows: &Rows) -> [Mode; 3] {
     [rows.mode(0), rows.mode(1), rows.mode(2)]
 }
 
-/// Changes the rows, makes them anew for the same pairs, and stops where a row isn't what it should be then.
+/// Changes the rows, and makes them anew for the same pairs. Fails the test if a row is wrong then.
 fn change_and_reload<L: Ledger>(rt: &impl Abort, rows: &mut Rows, blank: Blank)
     requires room { rows.old.room ≡ 2 }
     requires slaves { rows.old.slaves ≡ 1 }
@@ -121,7 +121,7 @@ fn rows_made_anew_are_those_at_load(rt: HostRuntime) -> Result<(), Fail> {
     Ok(())
 }
 
-/// Does each change of a row by its own call, and stops where a row isn't what it should be then.
+/// Makes each change of a row by its own call. Fails the test if a row is wrong then.
 fn change_each<L: Ledger>(rt: &impl Abort, rows: &mut Rows, blank: Blank)
     requires name { blank.name ≡ L.name }
     requires parts { blank.parts ≡ L.parts }
@@ -160,7 +160,7 @@ fn a_row_is_changed_by_its_calls(rt: HostRuntime) -> Result<(), Fail> {
     Ok(())
 }
 
-/// A pair of the second master, who uses the slave from then on.
+/// A pair of the second master, which uses the slave from its start on.
 static ANEW_USED: [RowSeed; 1] = [RowSeed {
     master: 1,
     slave: 0,
@@ -171,7 +171,7 @@ static ANEW_USED: [RowSeed; 1] = [RowSeed {
     hold: false,
 }];
 
-/// That pair, if nobody uses the slave.
+/// That pair, made anew for a slave that nobody uses.
 static ANEW: [RowSeed; 1] = [RowSeed {
     master: 1,
     slave: 0,
@@ -182,7 +182,7 @@ static ANEW: [RowSeed; 1] = [RowSeed {
     hold: false,
 }];
 
-/// Makes the rows anew for other pairs, for none and for the first ones, and stops where one isn't what it should be.
+/// Makes the rows anew for other pairs, for none, and for the first ones. Fails the test if a row is wrong then.
 fn reload_others<L: Ledger>(rt: &impl Abort, rows: &mut Rows, blank: Blank)
     requires room { rows.old.room ≡ 3 }
     requires slaves { rows.old.slaves ≡ 1 }

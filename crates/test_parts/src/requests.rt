@@ -1,4 +1,4 @@
-//! Requests to suspend that are pending.
+//! The pending requests to suspend.
 
 use crate::chip::chip;
 use crate::rows::{all_right, boxed, same};
@@ -8,7 +8,7 @@ use pm_procs::{NEVER, Pending, Procs};
 use std::alloc::Global;
 use std::test::Fail;
 
-/// The timeout of a request, how much time passes, what is left of its time then, and whether it is due.
+/// A row: the timeout of a request, the time that passes, the rest of its timeout, and whether it is due.
 static TIMES: [(u32, u32, Option<u32>, bool); 12] = [
     (100, 0, Some(100), false),
     (100, 99, Some(1), false),
@@ -40,7 +40,7 @@ fn masters(alloc: Global) -> Result<Box<Procs>, Fail> {
     Ok(boxed(alloc, procs)?)
 }
 
-/// The place of the first time that passes otherwise, for a request alone or among others.
+/// The index of the first row in which time passes otherwise, for a request alone or among others.
 fn wrong_time(procs: &mut Procs) -> Option<usize> {
     for (place, (timeout, count, left, is_due)) in TIMES.iter().enumerate() {
         let made = request(*timeout);
@@ -67,7 +67,7 @@ fn time_passes_for_what_is_pending(rt: HostRuntime) -> Result<(), Fail> {
     Ok(())
 }
 
-/// What is pending on three masters, and on one that isn't there.
+/// The pending requests to three masters, and to one that isn't there.
 fn pending(procs: &Procs) -> [Option<Pending>; 4] {
     [
         procs.pending(0),

@@ -1,4 +1,4 @@
-//! The requirement rows: the changes of a master's mode, and what is wanted of a slave.
+//! The requirement rows: changes of a master's mode, and the requirements in force on a slave.
 
 ghost use Rattle.std.specs.Prelude.{◌≡◌, ◌<◌};
 
@@ -26,7 +26,7 @@ fn seed(master: usize, shareable: bool, preset: u32, hold: bool) -> RowSeed
     }
 }
 
-/// What a row has besides use and preset: whether the slave is held, and the processor that it wakes.
+/// The rest of a row, besides use and preset: whether the slave is held, and the processor with which it is armed.
 static BESIDES: [(bool, Option<NodeId>); 4] = [
     (false, None),
     (true, None),
@@ -34,8 +34,8 @@ static BESIDES: [(bool, Option<NodeId>); 4] = [
     (true, Some(NodeId(2))),
 ];
 
-/// The rows of two masters, of which the first one is in a mode and may use the slave. A row that is used
-/// has ACCESS now, CONTEXT next, and a latency of 9.
+/// The rows of two masters. The first is in this mode, and may use the slave. A used row has ACCESS now, CONTEXT
+/// next, and a latency of 9.
 fn prepared<L: Ledger>(
     alloc: Global,
     mode: Mode,
@@ -54,14 +54,14 @@ fn prepared<L: Ledger>(
     Ok(rows)
 }
 
-/// What makes a row used like that.
+/// The changes that make a row such a used one.
 static TO_USED: [(usize, Change); 3] = [
     (0, Change::Request(Caps(1))),
     (0, Change::Set(Mode::Suspending, Caps(2))),
     (0, Change::Limit(9)),
 ];
 
-/// Changes the rows of these masters on the one slave, one after another.
+/// Makes these masters' changes of their rows on the one slave, one after another.
 fn change_all<L: Ledger>(rows: &mut Rows, changes: &[(usize, Change)], steps: &mut Steps<L>) {
     for (master, by) in changes {
         rows.change(*master, 0, *by, steps);
@@ -79,9 +79,9 @@ const ALL_UNUSED: &[Use] = &[UNUSED, UNUSED, UNUSED, UNUSED];
 
 const AS_BEFORE: &[Use] = &[USED, USED, UNUSED, UNUSED];
 
-/// The sixteen pairs of modes. What the change makes of a used row with no preset, of one with a preset of
-/// WAKEUP and ACCESS, of an unused row with no preset, and of one with that preset; and whether the row
-/// keeps its hold, its arming and its latency.
+/// The sixteen pairs of modes. For each: a used row without a preset, one with a preset of WAKEUP and ACCESS, an
+/// unused row without a preset, and one with that preset, after the change of mode; and whether the row keeps its
+/// hold, its arming and its latency.
 static SHIFTS: [(Mode, Mode, &[Use], bool); 16] = [
     (Mode::Off, Mode::Off, AS_BEFORE, true),
     (
@@ -131,7 +131,7 @@ static SHIFTS: [(Mode, Mode, &[Use], bool); 16] = [
     (Mode::Suspending, Mode::Suspending, AS_BEFORE, true),
 ];
 
-/// The row after a shift, where it was armed and held like this.
+/// The row after a shift of one that was armed and held like this.
 fn shifted(wanted: Use, was_used: bool, preset: u32, hold: bool, armed: Option<NodeId>) -> Row {
     let (now, next) = wanted.unwrap_or((0, 0));
     Row {
@@ -145,7 +145,7 @@ fn shifted(wanted: Use, was_used: bool, preset: u32, hold: bool, armed: Option<N
     }
 }
 
-/// Whether a shift makes of a row in one of its four forms what is wanted, held and armed or not.
+/// Whether a shift changes a row of one of the four forms as expected, held and armed or not.
 fn is_shifted<L: Ledger>(
     alloc: Global,
     shift: &(Mode, Mode, &[Use], bool),
@@ -172,7 +172,7 @@ fn is_shifted<L: Ledger>(
     Ok(true)
 }
 
-/// Whether a shift makes what is wanted of a row in each of its four forms.
+/// Whether a shift changes a row of each of the four forms as expected.
 fn is_right<L: Ledger>(
     alloc: Global,
     shift: &(Mode, Mode, &[Use], bool),
@@ -206,7 +206,7 @@ fn each_change_of_a_mode_changes_the_rows_by_its_table(rt: HostRuntime) -> Resul
     Ok(())
 }
 
-/// Who uses the slave: each of the masters 1 and 2, how many, and who stands in the way of each.
+/// The users of the slave: masters 1 and 2, their number, and the rival of each.
 type Users = (bool, bool, u32, Option<usize>, Option<usize>);
 
 fn is_used(rows: &Rows, master: usize) -> bool {
@@ -226,7 +226,7 @@ fn users(rows: &Rows) -> Users {
     )
 }
 
-/// Whether the slave can be shared, the masters with presets that start one after another, and who uses
+/// A row: whether the slave can be shared, the masters with presets that start one after another, and the users of
 /// the slave then.
 static STARTS: [(bool, &[usize], Users); 6] = [
     (false, &[1], (true, false, 1, None, Some(1))),
@@ -262,8 +262,8 @@ fn wrong_start<L: Ledger>(alloc: Global, steps: &mut Steps<L>) -> Result<Option<
     Ok(None)
 }
 
-/// Starts masters in each of these orders, stops where another one uses the slave than should, and lets the first one
-/// to start go off.
+/// Starts masters in each of these orders. Fails the test if the slave has other users than expected; then switches
+/// the first one off.
 fn start_each<L: Ledger>(rt: &(impl Abort + AllocGlobal), blank: Blank) -> Result<(), NoMemory>
     requires name { blank.name ≡ L.name }
     requires parts { blank.parts ≡ L.parts }
@@ -289,8 +289,8 @@ fn the_first_to_start_gets_a_slave_that_cannot_be_shared(rt: HostRuntime) -> Res
     Ok(())
 }
 
-/// The mode of a master, whether it uses the slave, whether its row is armed and held, and the
-/// capabilities that are wanted of the slave: ACCESS is 1, CONTEXT 2, WAKEUP 4.
+/// A row: the mode of a master, whether it uses the slave, whether its row is armed and held, and the capabilities in
+/// force on the slave. ACCESS is 1, CONTEXT 2, WAKEUP 4.
 static WANTS: [(Mode, bool, bool, bool, u32); 14] = [
     (Mode::Active, false, false, false, 0),
     (Mode::Active, true, false, false, 1),
@@ -308,7 +308,7 @@ static WANTS: [(Mode, bool, bool, bool, u32); 14] = [
     (Mode::Asleep, true, true, true, 7),
 ];
 
-/// Whether what is wanted is right, of a slave with these capabilities.
+/// Whether the expected capabilities are in force on a slave that has these.
 fn is_wanted<L: Ledger>(
     alloc: Global,
     row: &(Mode, bool, bool, bool, u32),
@@ -362,7 +362,7 @@ fn wanted_in_all(caps: u32, limit: Option<u32>) -> Wanted {
     }
 }
 
-/// Limits and releases of two masters that use a slave, and what is wanted of it then.
+/// Limits and releases by two masters that use a slave, and the requirements in force after each.
 fn join<L: Ledger>(rt: &(impl Abort + AllocGlobal), blank: Blank) -> Result<(), NoMemory>
     requires name { blank.name ≡ L.name }
     requires parts { blank.parts ≡ L.parts }

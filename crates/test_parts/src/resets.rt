@@ -4,7 +4,7 @@ use crate::rows::{all_right, same};
 use pm_resets::Resets;
 use std::test::Fail;
 
-/// A line that is put, whether it is asserted, and the values of all five lines then.
+/// A row: a line that is put, whether it is asserted, and the values of all five lines after it.
 static PUTS: [(usize, bool, [u32; 5]); 9] = [
     (0, true, [1, 0, 0, 0, 0]),
     (4, true, [1, 0, 0, 0, 1]),
@@ -27,7 +27,7 @@ fn values(resets: &Resets) -> [u32; 5] {
     ]
 }
 
-/// The place of the first row after which a line has another value.
+/// The index of the first row after which a line has another value.
 fn wrong_put(resets: &mut Resets) -> Option<usize> {
     for (place, (line, asserted, expected)) in PUTS.iter().enumerate() {
         resets.put(*line, *asserted);

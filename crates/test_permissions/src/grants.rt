@@ -1,4 +1,4 @@
-//! Permissions, looked up by the places of masters and units.
+//! Permissions, by the places of masters and units.
 
 use crate::chip::chip;
 use crate::permissions::{LISTS, Permission, Wish, object_of};
@@ -25,7 +25,7 @@ fn slave_of(chip: &Topology, node: u32) -> Option<usize> {
     }
 }
 
-/// What is permitted, looked up by places: nothing if one of them isn't there.
+/// Permissions by places; nothing is permitted if a place isn't there.
 fn looked_up(grants: &Grants, object: &Object, chip: &Topology, wish: Wish) -> Option<bool> {
     match wish {
         Wish::Use(m, slave) => {

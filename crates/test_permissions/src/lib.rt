@@ -1,4 +1,4 @@
-//! Tests of what an object permits on the chip, and of the modes of its processors and of who has them.
+//! Tests of an object's permissions on the chip, of the modes of its processors, and of their owners.
 #![tactic(auto)]
 
 #[cfg(test)]

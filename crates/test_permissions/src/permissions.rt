@@ -6,14 +6,14 @@ use pm_objtext::build;
 use std::alloc::Global;
 use std::test::Fail;
 
-/// How the text of each object begins.
+/// The beginning of each object's text.
 pub(crate) const HEAD: &str = "header\nsection masters\n";
 
-/// The masters 1 and 7, of which neither may suspend or wake anybody.
+/// Masters 1 and 7, neither of which may suspend or wake another.
 const MASTERS: &str = "header\nsection masters\nmaster 1 0x1 0 0 0\nmaster 7 0x100 0 0 0\n";
 
-/// What a master wants to do: to use a slave, to suspend or wake a master, to force a node, to reset by a line,
-/// to shut down by a subtype, or to configure.
+/// A master's request: to use a slave, to suspend or wake a master, to force a node, to reset by a line, to shut down
+/// by a subtype, or to set the configuration.
 #[derive(Clone, Copy)]
 pub(crate) enum Wish {
     Use(u32, u32),
@@ -25,7 +25,7 @@ pub(crate) enum Wish {
     Configure(u32),
 }
 
-/// How the text of an object goes on, what a master wants to do, and whether it may.
+/// A row: the rest of an object's text, a request, and whether the master may make it.
 pub(crate) type Permission = (&'static str, Wish, bool);
 
 /// The section of slaves.
@@ -284,7 +284,7 @@ const SHUTDOWNS: &[Permission] = &[
         false,
     ),
     ("", Wish::Shut(7, 1), false),
-    // masters that aren't configured, and a subtype that there isn't
+    // masters that aren't configured, and an unknown subtype
     ("", Wish::Shut(8, 0), false),
     (
         "section shutdown\nshutdown 1 0x200\n",
@@ -327,7 +327,7 @@ const CONFIGURATIONS: &[Permission] = &[
     ),
 ];
 
-/// How the objects of each list begin, and the list.
+/// The beginnings of the objects of each list, and the list.
 pub(crate) static LISTS: [(&str, &[Permission]); 7] = [
     (MASTERS, USES),
     (HEAD, SUSPENDS),
@@ -338,7 +338,7 @@ pub(crate) static LISTS: [(&str, &[Permission]); 7] = [
     (MASTERS, CONFIGURATIONS),
 ];
 
-/// The object of a text that begins and goes on like this.
+/// The object of a text with this beginning and this rest.
 pub(crate) fn object_of(alloc: Global, head: &str, rest: &str) -> Result<Box<Object>, Fail> {
     let mut text = Vec::from_slice(alloc, head.as_bytes())?;
     text.extend_from_slice(rest.as_bytes())?;

@@ -1,4 +1,4 @@
-//! What an object permits to each master.
+//! The permissions that an object gives to each master.
 
 use crate::chip::chip;
 use crate::permissions::{LISTS, Permission, Wish, object_of};

@@ -1,4 +1,4 @@
-//! The modes of processors and of the masters that have them, and to which master a processor belongs.
+//! The modes of processors and of their masters, and the owner of a processor.
 
 use crate::chip::chip;
 use crate::permissions::{HEAD, object_of};
@@ -18,7 +18,7 @@ const ASLEEP: Mode = Mode::Asleep;
 
 const SUSPENDING: Mode = Mode::Suspending;
 
-/// The modes of two processors, and that of a master that has both.
+/// A row: the modes of two processors, and the mode of a master that has both.
 static PAIRS: [(Mode, Mode, Mode); 16] = [
     (OFF, OFF, OFF),
     (OFF, ACTIVE, ACTIVE),
@@ -55,7 +55,7 @@ fn members(alloc: Global) -> Result<Box<List<List<usize>>>, Fail> {
     Ok(members)
 }
 
-/// The processors of the chip, which these masters have.
+/// The processors of the chip, with these masters.
 fn processors(alloc: Global) -> Result<Box<Procs>, Fail> {
     let chip = chip(alloc)?;
     let members = Box::into_inner(members(alloc)?);
@@ -63,7 +63,7 @@ fn processors(alloc: Global) -> Result<Box<Procs>, Fail> {
     Ok(boxed(alloc, procs)?)
 }
 
-/// The place of the first pair for which a master doesn't have its mode, or another master has one.
+/// The index of the first row in which the master of both has another mode, or another master has a mode.
 fn wrong_pair(procs: &mut Procs) -> Option<usize> {
     for (place, (first, second, both)) in PAIRS.iter().enumerate() {
         procs.put(0, *first);
@@ -117,7 +117,7 @@ fn what_is_not_there_is_off(rt: HostRuntime) -> Result<(), Fail> {
     Ok(())
 }
 
-/// How the text of an object goes on, a node, and the place of the master to which it belongs.
+/// A row: the rest of an object's text, a node, and the place of the node's owner.
 static OWNERS: [(&str, u32, Option<usize>); 9] = [
     ("master 1 0x1 0 0 0\nmaster 7 0x100 0 0 0\n", 2, Some(0)),
     ("master 1 0x1 0 0 0\nmaster 7 0x100 0 0 0\n", 5, Some(0)),

@@ -1,4 +1,4 @@
-//! What calls are answered.
+//! The answers to power calls.
 
 use crate::tables::{Words, all_right, smc_of};
 use pm_chip::zynqmp;
@@ -21,7 +21,7 @@ const SHUTDOWN: Words = (2, 0x8400_0008, [0, 0, 0]);
 
 const RESTART: Words = (2, 0x8400_0009, [0, 0, 0]);
 
-/// A call, the status and the first word of the reply to its message, and what it is answered.
+/// A row: a call, the status and the first word of the reply to its message, and the answer to the call.
 static ANSWERS: [(Words, Option<(u32, u32)>, Option<i32>); 48] = [
     // CPU_ON: started; on already; refused for another reason, or a command failed
     (ON, Some((0, 0)), Some(0)),
@@ -34,7 +34,7 @@ static ANSWERS: [(Words, Option<(u32, u32)>, Option<i32>); 48] = [
     (ON, Some((2, 0)), Some(-6)),
     (ON, None, None),
     (ON_32, None, None),
-    // CPU_OFF: no answer where it is done
+    // CPU_OFF: no answer if it is done
     (OFF, Some((0, 0)), None),
     (OFF, Some((1, 0)), Some(-3)),
     (OFF, Some((2004, 0)), Some(-3)),
@@ -82,7 +82,7 @@ static ANSWERS: [(Words, Option<(u32, u32)>, Option<i32>); 48] = [
     ),
 ];
 
-/// What a call is answered from the status and the first word of a reply.
+/// The answer to a call, by the status and the first word of a reply.
 fn answer_from(t: &Topology, words: &Words, reply: Option<(u32, u32)>) -> Option<i32> {
     let smc = smc_of(words);
     match reply {
@@ -97,7 +97,7 @@ fn answer_from(t: &Topology, words: &Words, reply: Option<(u32, u32)>) -> Option
     }
 }
 
-/// The place of the first call that is answered otherwise.
+/// The index of the first row with another answer.
 fn wrong_answer(t: &Topology) -> Option<usize> {
     for (place, (words, reply, expected)) in ANSWERS.iter().enumerate() {
         if answer_from(t, words, *reply) != *expected {

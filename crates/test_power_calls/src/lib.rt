@@ -1,4 +1,4 @@
-//! Tests of the calls of a kernel: what each comes to, and what it is answered.
+//! Tests of a kernel's power calls: the events that they become, and their answers.
 #![tactic(auto)]
 
 #[cfg(test)]

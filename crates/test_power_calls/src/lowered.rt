@@ -1,4 +1,4 @@
-//! The events that calls come to.
+//! The events that power calls become.
 
 use crate::tables::{Words, all_right, smc_of};
 use pm_base::{Event, Message, NodeId};
@@ -7,17 +7,17 @@ use pm_psci::lower;
 use pm_topology::Topology;
 use std::test::Fail;
 
-/// What a call comes to.
+/// The expected events of a call.
 enum Lowered {
     /// One message of master 1.
     Message(u32, [u32; 5]),
     /// The message by which a processor suspends itself, and then its wait for an interrupt.
     Off(u32),
-    /// Nothing.
+    /// No event.
     Pass,
 }
 
-/// A call, and what it comes to.
+/// A row: a call, and its events.
 static CALLS: [(Words, Lowered); 36] = [
     // CPU_ON in both forms, each target, and the first number past them
     (
@@ -109,7 +109,7 @@ static CALLS: [(Words, Lowered); 36] = [
     ((0, 0xC400_0003, [1, 0, 0]), Lowered::Pass),
 ];
 
-/// The event at a place of those that are expected.
+/// The event at a place among the expected ones.
 fn expected(lowered: &Lowered, k: usize) -> Option<Event> {
     match (lowered, k) {
         (Lowered::Message(api, args), 0) => Some(sent(*api, *args)),
@@ -129,7 +129,7 @@ fn sent(api: u32, args: [u32; 5]) -> Event {
     }
 }
 
-/// Whether a call comes to these events, and to no other.
+/// Whether a call becomes exactly these events.
 fn is_lowered(t: &Topology, words: &Words, lowered: &Lowered) -> bool {
     let smc = smc_of(words);
     lower(t, &smc, 0) == expected(lowered, 0)
@@ -138,7 +138,7 @@ fn is_lowered(t: &Topology, words: &Words, lowered: &Lowered) -> bool {
         && lower(t, &smc, usize::MAX).is_none()
 }
 
-/// The place of the first call that comes to something else.
+/// The index of the first row with other events.
 fn wrong_call(t: &Topology) -> Option<usize> {
     for (place, (words, lowered)) in CALLS.iter().enumerate() {
         if !is_lowered(t, words, lowered) {

@@ -1,10 +1,10 @@
-//! How a table is judged, and the calls of the tables.
+//! The assertion on tables, and the calls in the tables.
 
 use pm_base::NodeId;
 use pm_psci::Smc;
 use std::process::Abort;
 
-/// Stops where a table has a wrong row: `wrong` is the place of the first one.
+/// Fails the test if a table has a wrong row; `wrong` is the index of the first one.
 pub(crate) fn all_right(rt: &impl Abort, wrong: Option<usize>) {
     assert_eq!(rt; wrong, None);
 }

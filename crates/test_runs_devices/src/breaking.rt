@@ -8,8 +8,8 @@ use test_fixtures::{
     Asked, LABORATORY, LABORATORY_LOADED, LABORATORY_SETTLED, joined, model, replay_of,
 };
 
-/// A script over the laboratory's object after its first line, `ipi 1 21`, that breaks nodes and mends them, and its text after
-/// that line's.
+/// A script that breaks and mends nodes, over the laboratory's object and after its first line `ipi 1 21`, and its
+/// text after that line's.
 static BROKEN: [(&str, &str); 4] = [
     (
         "break 28
@@ -29,7 +29,7 @@ end slave 28 1 1
 end power 62 1 1
 ",
     ),
-    // A number that is no node, that of a reset line too, breaks nothing.
+    // a number that is no node breaks nothing, nor does one of a reset line
     (
         "break 5000
 break 70
@@ -45,7 +45,7 @@ end power 62 1 1
 end line 33 1 1
 ",
     ),
-    // A power call is answered by the reply that was told: its processor didn't start on the device.
+    // a power call is answered by the reply that was told: its processor didn't start on the device
     (
         "break 3
 smc 2 0xC4000003 1 4096 0
@@ -67,7 +67,7 @@ end power 10 1 1
 end power 62 1 1
 ",
     ),
-    // A processor that stops itself is told so before it waits, and the device keeps it on until it is mended.
+    // a processor that stops itself is told so before it waits, and the device keeps it on until it is mended
     (
         "smc 2 0xC4000003 1 4096
 break 3

@@ -1,4 +1,4 @@
-//! Runs over a device of which one node is broken, at each height of the forest.
+//! Runs over a device with one broken node, at each height of the forest.
 
 ghost use Rattle.std.specs.Prelude.{◌≡◌, IfOk};
 ghost use Rattle.pm_base.specs.declared.names.Unit.{Unit};
@@ -13,10 +13,10 @@ use std::process::Abort;
 use std::test::Fail;
 use test_fixtures::{DOMAINS, model, replay_of};
 
-/// A broken node, a script, its text, and the values at which the device then stands.
+/// A row: a broken node, a script, its text, and the values of the device at the end.
 static BROKEN: [(u32, &str, &str, &[(u32, u32)]); 7] = [
-    // LPD, the parent of the RPU's domain: that, its processors, the memory in it and the peripheral below
-    // LPD are skipped. FPD stands apart.
+    // LPD, the parent of the RPU's domain: LPD itself, its processors, the memory in that domain and the peripheral
+    // below LPD are skipped. FPD isn't touched
     (
         62,
         "boot 7 0
@@ -61,8 +61,7 @@ end power 62 1 0
             (28, 1),
         ],
     ),
-    // The RPU's domain: its processors and the memory in it are skipped, LPD and what stands below it
-    // directly are not.
+    // the RPU's domain: its processors and the memory in it are skipped; LPD and its other children aren't
     (
         6,
         "boot 7 0
@@ -88,7 +87,7 @@ end power 62 1 1
 ",
         &[(62, 1), (6, 0), (7, 0), (15, 0), (33, 1)],
     ),
-    // A processor: the book has it active, and it is heard.
+    // a processor: the book has it active, and it is heard
     (
         7,
         "boot 7 0
@@ -111,7 +110,7 @@ end power 62 1 1
 ",
         &[(62, 1), (6, 1), (7, 0), (8, 1), (33, 1)],
     ),
-    // FPD, a domain with no parent: its slaves are skipped but for states that need no power.
+    // FPD, a domain without a parent: its slaves are skipped, except for states that need no power
     (
         10,
         "boot 7 0
@@ -151,7 +150,7 @@ end slave 63 1 1
 ",
         &[(62, 1), (10, 0), (28, 0), (55, 1), (9, 1), (63, 1)],
     ),
-    // A slave: its domain goes up for it, and down when it isn't required any more.
+    // a slave: its domain goes up for it, and down when it isn't required any more
     (
         28,
         "boot 7 0
@@ -181,7 +180,7 @@ end power 62 1 1
 ",
         &[(62, 1), (10, 0), (28, 0)],
     ),
-    // A slave that is told another state than before, from the last one that it took.
+    // a slave gets a command for another state than before, from the last state that it took
     (
         55,
         "boot 7 0
@@ -210,7 +209,7 @@ end power 62 1 1
 ",
         &[(62, 1), (10, 1), (55, 0)],
     ),
-    // A node that the chip doesn't have: nothing fails.
+    // a node that the chip lacks: nothing fails
     (
         70,
         "boot 7 0
@@ -237,7 +236,7 @@ end power 62 1 1
     ),
 ];
 
-/// A device that stands at 0 and of which one node is broken.
+/// A device with all units at 0 and one broken node.
 fn broken_device(alloc: Global, broken: u32) -> Result<Box<ModelDevice>, NoMemory>
     ensures { IfOk result (λ device. (unit : Unit) → (moment_of device.value).value unit ≡ 0) }
 {
@@ -246,7 +245,7 @@ fn broken_device(alloc: Global, broken: u32) -> Result<Box<ModelDevice>, NoMemor
     Ok(device)
 }
 
-/// A run over a device of which this node is broken.
+/// A run over a device with this broken node.
 fn check_broken(
     rt: &(impl Abort + AllocGlobal),
     broken: u32,

@@ -1,4 +1,4 @@
-//! How a run over a device is judged.
+//! The comparisons of a run over a device with its text and exit.
 
 ghost use Rattle.std.specs.Prelude.{◌≡◌};
 ghost use Rattle.pm_base.specs.declared.names.Unit.{Unit};
@@ -11,7 +11,7 @@ use std::process::Abort;
 use std::test::Fail;
 use test_fixtures::Asked;
 
-/// Compares a run over any device that stands at 0 with its text and exit.
+/// Compares a run with its text and exit, over any device with all units at 0.
 pub(crate) fn check_with<D: Device>(
     rt: &(impl Abort + AllocGlobal),
     asked: &Asked,
@@ -27,7 +27,7 @@ pub(crate) fn check_with<D: Device>(
     Ok(())
 }
 
-/// Stops where a run of these words didn't end with the exit, or didn't write the text.
+/// Fails the test if a run of these words had another exit or another text.
 fn judge(rt: &impl Abort, words: &str, found: Exit, exit: Exit, written: &[u8], text: &[u8]) {
     assert_eq!(rt; (found, written), (exit, text), "{words}");
 }

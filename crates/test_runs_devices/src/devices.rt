@@ -7,7 +7,7 @@ use std::process::Abort;
 use std::test::Fail;
 use test_fixtures::{DOMAINS, model, node, replay_of};
 
-/// A script and its text over a device that doesn't fail, and the values at which it then stands.
+/// A script, its text over a device that doesn't fail, and the device's values at the end.
 static FAITHFUL: [(&str, &str, &[(u32, u32)]); 1] = [(
     "boot 7 0
 ipi 7 13 28 1 0 2
@@ -33,7 +33,7 @@ end power 62 1 1
     &[(62, 1), (7, 1), (10, 0), (28, 0)],
 )];
 
-/// The first of these nodes that doesn't have its value on a device, and the value that it has there.
+/// The first of these nodes that has another value on a device, and that value.
 fn wrong_value(device: &ModelDevice, values: &[(u32, u32)]) -> Option<(u32, u32)> {
     for (number, value) in values {
         let found = device.value(node(*number));
@@ -44,7 +44,7 @@ fn wrong_value(device: &ModelDevice, values: &[(u32, u32)]) -> Option<(u32, u32)
     None
 }
 
-/// Stops where a node doesn't have its value on a device.
+/// Fails the test if a node of a device has another value.
 pub(crate) fn check_values(rt: &impl Abort, device: &ModelDevice, values: &[(u32, u32)]) {
     assert_eq!(rt; wrong_value(device, values), None);
 }

@@ -1,4 +1,4 @@
-//! A device of a run over the topology of a file.
+//! The fit of a device to the topology of a file.
 
 use super::running::run_with;
 use pm_base::{Command, Exit};
@@ -8,14 +8,15 @@ use std::process::Abort;
 use std::test::Fail;
 use test_fixtures::{Asked, SMALL, SMALL_TOPOLOGY, model, node};
 
-/// Words, and which of the nodes 11, of the chip alone, and 100, of the topology alone, the device has after them.
+/// A row: words, and which of the nodes 11 (of the chip alone) and 100 (of the topology alone) the device has after
+/// their run.
 static CASES: [(&str, bool, bool); 3] = [
     ("replay obj script topo", false, true),
     ("reach obj 1 topo", true, false),
     ("isolate obj script 1 topo", true, false),
 ];
 
-/// Whether a device has a node, after a run of these words.
+/// Whether a device has a node after a run of these words.
 fn check_has(rt: &impl Abort, device: &mut ModelDevice, words: &str, number: u32, has: bool) {
     let taken = device.command(Command {
         unit: node(number),
@@ -24,7 +25,7 @@ fn check_has(rt: &impl Abort, device: &mut ModelDevice, words: &str, number: u32
     assert_eq!(rt; taken.is_ok(), has, "{words}, node {number}");
 }
 
-/// A run that is Done, after which a device has these nodes.
+/// A run that ends with Done and leaves a device that has these nodes.
 fn check_fitted(
     rt: &(impl Abort + AllocGlobal),
     asked: &Asked,
@@ -40,7 +41,7 @@ fn check_fitted(
     Ok(())
 }
 
-/// `replay` fits the device to the topology that its words name, and nothing else does.
+/// `replay` fits the device to the topology that its words name; no other words do.
 #[test]
 fn a_device_is_fitted_by_a_replay_alone(rt: HostRuntime) -> Result<(), Fail> {
     for (words, of_chip, of_topology) in CASES {

@@ -1,4 +1,4 @@
-//! Tests of whole runs over devices that follow each command, but for nodes that are broken.
+//! Tests of whole runs over devices that fail only on broken nodes.
 #![tactic(auto)]
 
 #[cfg(test)]

@@ -1,4 +1,4 @@
-//! Runs with lines of several core steps, over a device whose values are looked at afterwards.
+//! Runs with lines of several core steps, and the values of the device after them.
 
 use super::devices::check_values;
 use super::running::run_with;
@@ -15,13 +15,13 @@ const SERVED: &str = "6 set 11 0 2
 6 reply 1 0 0 0 0
 ";
 
-/// The text of the line in which processor 3 stops itself: its message is answered, and then it waits.
+/// The text of a line in which processor 3 stops itself: its message is answered, and then it waits.
 const STOPPED: &str = "3 reply 1 0 0 0 0
 3 set 3 1 0
 ";
 
-/// Wherever the sink breaks off within a line, the line is carried out to its end, so the device stands at these values.
-/// The line after it isn't carried out.
+/// The sink breaks off within a line, at each byte. The line is carried out to its end, so that the device has these
+/// values; the next line isn't carried out.
 fn check_line(
     rt: &(impl Abort + AllocGlobal),
     script: &str,
@@ -53,7 +53,7 @@ fn check_room(
     Ok(())
 }
 
-/// Both messages are served and the device follows both.
+/// Both messages are served, and the device follows both.
 #[test]
 fn a_line_is_carried_out_to_its_end_where_its_text_breaks_off(rt: HostRuntime) -> Result<(), Fail> {
     let script = "ipi 1 21

@@ -1,4 +1,4 @@
-//! How a run over a device that fails commands is judged.
+//! The comparisons of a run with its text and exit, over a device that fails commands.
 
 use super::running::run_with;
 use pm_base::Exit;
@@ -8,7 +8,7 @@ use std::process::Abort;
 use std::test::Fail;
 use test_fixtures::{Asked, listed, node};
 
-/// The first of these nodes that doesn't have its value on a device, and the value that it has there.
+/// The first of these nodes that has another value on a device, and that value.
 fn wrong_listed(device: &ListedDevice, values: &[(u32, u32)]) -> Option<(u32, u32)> {
     for (number, value) in values {
         let found = device.value(node(*number));
@@ -19,18 +19,18 @@ fn wrong_listed(device: &ListedDevice, values: &[(u32, u32)]) -> Option<(u32, u3
     None
 }
 
-/// Stops where a run of these words didn't end with the exit, or didn't write the text.
+/// Fails the test if a run of these words had another exit or another text.
 fn judge(rt: &impl Abort, words: &str, found: Exit, exit: Exit, written: &[u8], text: &[u8]) {
     assert_eq!(rt; (found, written), (exit, text), "{words}");
 }
 
-/// Stops where a node is wrong after a run in which these commands fail.
+/// Fails the test if a node has another value after a run in which these commands fail.
 fn check_fails(rt: &impl Abort, failing: &[u32], wrong: Option<(u32, u32)>) {
     assert_eq!(rt; wrong, None, "{failing:?} fail");
 }
 
-/// Compares a run over a device that fails the commands with these numbers with its text, and with the values at which the device
-/// then stands.
+/// Compares a run with its text and the device's values at the end, over a device that fails the commands with these
+/// numbers.
 pub(crate) fn check_listed(
     rt: &(impl Abort + AllocGlobal),
     failing: &[u32],

@@ -4,7 +4,8 @@ use super::steps::{Course, On, Step, check_course};
 use std::test::Fail;
 use test_fixtures::DOMAINS;
 
-/// A run that takes a slave of each class up, in each power domain, and down. Each command waits for those before it in its step.
+/// A run that takes a slave of each class up and down, in each power domain. Each command waits for those before it
+/// in its step.
 static STEPS: [Step; 17] = [
     (
         "",

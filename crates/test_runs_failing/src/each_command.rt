@@ -1,4 +1,4 @@
-//! Runs in which each command fails alone: the book is the same.
+//! Runs in which each command fails alone: the book stays the same.
 
 use super::running::run_with;
 use pm_base::Exit;
@@ -9,7 +9,7 @@ use std::process::Abort;
 use std::test::Fail;
 use test_fixtures::{LABORATORY, listed, replay_of};
 
-/// A domain that is forced off by another's sleep: 21 commands over a device that doesn't fail.
+/// The sleep of another master switches a domain off: 21 commands over a device that doesn't fail.
 const SLEEPING: &str = "ipi 1 21
 boot 7 0
 ipi 7 13 28 1 0 2
@@ -18,7 +18,8 @@ wfi 2
 ipi 7 14 28
 ";
 
-/// The book's columns of the closing table, how many commands the device was given, and how many of them failed.
+/// The part of a run's text that is compared: the book's columns of the closing table, the number of commands, and
+/// the number of those that failed.
 #[derive(Drop)]
 struct Seen {
     book: String,
@@ -47,7 +48,7 @@ fn push_book(line: &str, book: &mut String) -> Result<(), AllocError> {
     Ok(())
 }
 
-/// Counts the command of a line, if the line is that of a command on a node.
+/// Counts the command of a line, if the line is a command on a node.
 fn count_command(line: &str, seen: &mut Seen) {
     match line.split_whitespace().nth(1) {
         Some("set") => seen.given = seen.given.saturating_add(1),
@@ -59,7 +60,7 @@ fn count_command(line: &str, seen: &mut Seen) {
     }
 }
 
-/// The run of a script over a sink, where these commands fail.
+/// A run of a script over a sink in which these commands fail.
 fn run_listed(
     alloc: Global,
     script: &[u8],
@@ -70,7 +71,7 @@ fn run_listed(
     run_with(alloc, &replay_of(LABORATORY, script), out, &mut *device)
 }
 
-/// What is seen of the text of a run.
+/// The compared part of a run's text.
 fn seen_in(alloc: Global, text: &str) -> Result<Seen, AllocError> {
     let mut seen = Seen {
         book: String::new(alloc),
@@ -84,7 +85,7 @@ fn seen_in(alloc: Global, text: &str) -> Result<Seen, AllocError> {
     Ok(seen)
 }
 
-/// What is seen of the run of a script where these commands fail.
+/// The compared part of the run of a script in which these commands fail.
 fn seen_with(
     rt: &(impl Abort + AllocGlobal),
     script: &[u8],
@@ -97,7 +98,7 @@ fn seen_with(
     Ok(seen_in(rt.alloc(), text)?)
 }
 
-/// One command failed, this one, and the book's columns are those of the run in which none does.
+/// Whether exactly this command failed, and the book's columns are those of the run without a failure.
 fn check_seen(rt: &impl Abort, command: u32, seen: &Seen, whole: &Seen) {
     let wanted = (1, whole.book.as_str());
     assert_eq!(rt;
@@ -107,8 +108,9 @@ fn check_seen(rt: &impl Abort, command: u32, seen: &Seen, whole: &Seen) {
     );
 }
 
-/// Runs a script once for each command that a device which doesn't fail is given, with that command failing alone: one
-/// command fails, and the book's columns are those of the run in which none does.
+/// Runs a script once for each command that a device gets if it doesn't fail, with that command failing alone. Fails
+/// the test if another number of commands fails, or the book's columns differ from those of the run without a
+/// failure.
 fn check_each_command(
     rt: &(impl Abort + AllocGlobal),
     script: &[u8],
@@ -129,10 +131,10 @@ fn the_book_is_the_same_whichever_command_fails(rt: HostRuntime) -> Result<(), F
     check_each_command(&rt, SLEEPING.as_bytes(), &whole)
 }
 
-/// Numbers of scripts that are made, and how many commands the device is given in the run of each.
+/// Numbers of lines, and how many commands the device gets in the run of each generated script.
 static MADE: [(u32, u32); 3] = [(8, 18), (50, 30), (60, 26)];
 
-/// Checks each command of the script that is made of a number, in whose run the device is given so many commands.
+/// Checks each command of the generated script of so many lines, in whose run the device gets so many commands.
 fn check_made(rt: &(impl Abort + AllocGlobal), number: u32, commands: u32) -> Result<(), Fail> {
     let script = make(rt.alloc(), number)?;
     let whole = seen_with(rt, &script, &[])?;

@@ -3,8 +3,8 @@
 use super::steps::{Course, On, Step, check_course};
 use std::test::Fail;
 
-/// The masters 1 and 7, which may use slaves 28 and 33. Master 7 may force domain 10, the first master may reset lines 33 and 7,
-/// and both may shut down all.
+/// Masters 1 and 7, which may use slaves 28 and 33. Master 7 may force domain 10, the first master may reset lines 33
+/// and 7, and both may shut down everything.
 const FORCING: &[u32] = &[
     2, 5, 1, 0x101, 2, 1, 0x1, 100, 0, 0, 7, 0x100, 100, 0, 0, 0x102, 2, 28, 1, 0x101, 33, 1,
     0x101, 0x104, 1, 10, 0x100, 0x105, 2, 33, 0x1, 7, 0x1, 0x106, 1, 1, 0x101,
@@ -34,7 +34,7 @@ static STEPS: [Step; 12] = [
         &[(On::Line, "33 0 1", &[])],
         &["reply 1 0 0 0 0"],
     ),
-    // a pulse over a line at 1 is its 0 alone
+    // a pulse of a line at 1 is its 0 alone
     (
         "ipi 1 17 33 2",
         &[(On::Line, "33 1 0", &[])],
@@ -45,7 +45,7 @@ static STEPS: [Step; 12] = [
         &[(On::Pulse, "33 0 1", &[1]), (On::Release, "33 1 0", &[])],
         &["reply 1 0 0 0 0"],
     ),
-    // a reset stops processor 7, and its domain falls
+    // a reset stops processor 7, and its domain goes down
     (
         "ipi 1 17 7 1",
         &[
@@ -65,7 +65,7 @@ static STEPS: [Step; 12] = [
         &[(On::Node, "6 0 1", &[1]), (On::Node, "7 0 1", &[])],
         &["run 7 64"],
     ),
-    // a force of FPD; slave 33 stands elsewhere, and falls since nobody holds it any more
+    // a force of FPD; slave 33 is elsewhere, and goes down since nobody holds it any more
     (
         "ipi 7 8 10 2",
         &[
@@ -77,7 +77,7 @@ static STEPS: [Step; 12] = [
         ],
         &["reply 7 0 0 0 0"],
     ),
-    // all restarts, and all is shut down
+    // everything restarts, and everything is shut down
     (
         "ipi 7 12 1 1",
         &[
@@ -105,7 +105,7 @@ static STEPS: [Step; 12] = [
     ("ipi 1 1", &[], &["drop 1"]),
 ];
 
-/// The values at which the device stands at the end.
+/// The values of the device at the end.
 static LAST: [(u32, u32); 8] = [
     (62, 1),
     (10, 0),

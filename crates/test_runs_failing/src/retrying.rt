@@ -1,12 +1,12 @@
-//! Runs over a device that fails commands, which are tried again in each step.
+//! Runs over a device that fails commands, which each later step tries again.
 
 use super::checks::check_listed;
 use std::test::Fail;
 use test_fixtures::{DOMAINS, replay_of};
 
-/// Numbers of commands that fail, a script, its text, and the values at which the device then stands.
+/// A row: the numbers of the commands that fail, a script, its text, and the values of the device at the end.
 static LISTED: [(&[u32], &str, &str, &[(u32, u32)]); 5] = [
-    // A slave is skipped while its domain is down.
+    // a slave is skipped as long as its domain is down
     (
         &[5],
         "boot 7 0
@@ -33,7 +33,7 @@ end power 62 1 1
 ",
         &[(62, 1), (10, 1), (28, 1)],
     ),
-    // Nothing goes up in a domain that isn't told yet.
+    // nothing goes up in a domain that the device didn't take up
     (
         &[1, 2],
         "boot 7 0
@@ -59,7 +59,7 @@ end power 62 1 1
 ",
         &[(62, 1), (6, 1), (7, 1), (8, 1), (33, 1)],
     ),
-    // A domain stays up while a slave below it can't be told to go down.
+    // a domain stays up as long as a slave below it doesn't take the command to go down
     (
         &[7, 8],
         "boot 7 0
@@ -93,7 +93,7 @@ end power 62 1 1
 ",
         &[(62, 1), (10, 0), (28, 0)],
     ),
-    // A domain that can't be told to go down serves the next request.
+    // a domain that doesn't take the command to go down serves the next request
     (
         &[8],
         "boot 7 0
@@ -126,7 +126,7 @@ end power 62 1 1
 ",
         &[(62, 1), (10, 0), (28, 0)],
     ),
-    // A domain that can't be told to go down over a slave that never went up.
+    // a domain doesn't take the command to go down, over a slave that never went up
     (
         &[6, 7],
         "boot 7 0

@@ -1,4 +1,4 @@
-//! A run over a device: the one place in which these tests make the call, of which nothing is said to them.
+//! A run over a device. Only here these tests make the top call; without its contract they are cheap to prove.
 
 ghost use Rattle.std.specs.Prelude.{◌≡◌};
 ghost use Rattle.pm_base.specs.declared.names.Unit.{Unit};
@@ -13,7 +13,7 @@ use std::alloc::Global;
 use std::test::Fail;
 use test_fixtures::{Asked, inputs_of, words_of};
 
-/// A run over a sink in memory, and any device that stands at 0, without modules and tasks.
+/// A run over a sink in memory, and any device with all units at 0, without modules and tasks.
 pub(crate) fn run_with<D: Device>(
     alloc: Global,
     asked: &Asked,
@@ -27,7 +27,7 @@ pub(crate) fn run_with<D: Device>(
     Ok(run_words(alloc, &words, &mut inputs, out, dev)?)
 }
 
-/// The call itself.
+/// The call of the top function.
 fn run_words<O: Sink, D: Device>(
     alloc: Global,
     words: &[String],

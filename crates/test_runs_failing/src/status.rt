@@ -1,11 +1,11 @@
-//! What the answer of a step tells of a device that doesn't follow it.
+//! The answer of a step that a device didn't follow.
 
 use super::checks::check_listed;
 use std::process::Abort;
 use std::test::Fail;
 use test_fixtures::{LABORATORY, LABORATORY_LOADED, LABORATORY_SETTLED, joined, replay_of};
 
-/// Commands that fail, a script after its first line, and its text after that line's.
+/// A row: the commands that fail, a script after its first line, and its text after that line's.
 static LISTED: [(&[u32], &str, &str); 3] = [
     (
         &[15, 16],
@@ -23,7 +23,7 @@ end slave 28 1 0
 end power 62 1 1
 ",
     ),
-    // The 1 of a pulse, and then the 0 behind it, which is tried again.
+    // the 1 of a pulse fails, and then the 0 after it, which is tried again
     (
         &[15],
         "ipi 1 17 33 2

@@ -1,4 +1,4 @@
-//! A run in which each command fails alone, told by a table of its steps.
+//! A run in which each command fails alone, written as a table of its steps.
 
 use super::checks::check_listed;
 use std::alloc::{AllocError, Global};
@@ -6,8 +6,8 @@ use std::process::Abort;
 use std::test::Fail;
 use test_fixtures::{Asked, replay_of};
 
-/// What a command is for: a node, a reset line, the 1 of a pulse, which isn't issued again where it fails, or the 0 behind it,
-/// of which the answer tells nothing: the line doesn't move in the book.
+/// The kind of a command: on a node; on a reset line; the 1 of a pulse, which isn't given again if it fails; or the 0
+/// after it, whose failure the answer doesn't tell, since the line doesn't move in the book.
 #[derive(Clone, Copy)]
 pub(crate) enum On {
     Node,
@@ -16,15 +16,15 @@ pub(crate) enum On {
     Release,
 }
 
-/// A command: what it is for, its unit with the value before and after, and the places of those commands of its step that are
-/// left out where it fails.
+/// A command: its kind, its unit with the value before and after, and the places of the commands of its step that are
+/// skipped if it fails.
 pub(crate) type Command = (On, &'static str, &'static [usize]);
 
-/// A line of the script, the commands of its step, and the lines that come after them. The first entry is step 0. In the script
-/// an empty line comes after each.
+/// A line of the script, the commands of its step, and the lines after them. The first entry is step 0. In the script
+/// an empty line follows each.
 pub(crate) type Step = (&'static str, &'static [Command], &'static [&'static str]);
 
-/// An object, the steps, the closing table, and the values at which the device stands at the end.
+/// An object, the steps, the closing table, and the values of the device at the end.
 #[derive(Clone, Copy)]
 pub(crate) struct Course {
     pub(crate) object: &'static [u32],
@@ -33,8 +33,7 @@ pub(crate) struct Course {
     pub(crate) values: &'static [(u32, u32)],
 }
 
-/// Puts a line at the end of a text: the number of a step and then words, the first of which may be
-/// left out with its space.
+/// Appends a line: the number of a step and then words. The first word may be left out with its space.
 fn push_line(
     alloc: Global,
     text: &mut String,
@@ -46,7 +45,7 @@ fn push_line(
     text.push_str(line.as_str())
 }
 
-/// Puts a line of a script behind a text, if it isn't empty, and an empty line.
+/// Appends a line of a script, if it isn't empty, and then an empty line.
 fn push_step(script: &mut String, line: &str) -> Result<(), AllocError> {
     if !line.is_empty() {
         script.push_str(line)?;
@@ -63,7 +62,7 @@ fn script_of_steps(alloc: Global, steps: &[Step]) -> Result<String, AllocError> 
     Ok(script)
 }
 
-/// How a command is written that the device took, and one that it didn't take.
+/// The text of a command that the device took, or that failed.
 fn set_name(on: On) -> &'static str {
     match on {
         On::Node => "set ",
@@ -98,7 +97,8 @@ fn waiting_for(commands: &[Command], failing: Option<usize>) -> &'static [usize]
     }
 }
 
-/// The commands of a step of this number, of which the one at place `failing` fails: those that wait for it aren't issued.
+/// The commands of the step with this number if the one at place `failing` fails: those that wait for it aren't
+/// given.
 fn push_commands(
     alloc: Global,
     text: &mut String,
@@ -117,7 +117,7 @@ fn push_commands(
     Ok(())
 }
 
-/// The commands of the next step, of this number: the one that failed, and those that waited for it.
+/// The commands of the next step, with this number: the one that failed, and those that waited for it.
 fn push_again(
     alloc: Global,
     text: &mut String,
@@ -137,7 +137,7 @@ fn push_again(
     Ok(())
 }
 
-/// A line of a step after its commands, where the one at place `k` failed.
+/// A line that follows the commands of a step in which the one at place `k` failed.
 fn failed_line(line: &'static str, commands: &[Command], k: usize) -> &'static str {
     match (line, commands.get(k)) {
         (_, Some((On::Release, _, _))) => line,
@@ -148,7 +148,7 @@ fn failed_line(line: &'static str, commands: &[Command], k: usize) -> &'static s
     }
 }
 
-/// The lines of a step of which no command fails.
+/// The lines of a step without a failure.
 fn push_done(
     alloc: Global,
     text: &mut String,
@@ -163,7 +163,7 @@ fn push_done(
     Ok(())
 }
 
-/// The lines of a step of which the command at place `k` fails, and of the next one, in which it is given again.
+/// The lines of a step in which the command at place `k` fails, and of the next one, in which it is given again.
 fn push_failed(
     alloc: Global,
     text: &mut String,
@@ -179,7 +179,7 @@ fn push_failed(
     push_again(alloc, text, number.saturating_add(1), commands, k)
 }
 
-/// The text of the steps where the command at place `k` of the step at place `failing` fails alone.
+/// The text of the steps if the command at place `k` of the step at place `failing` fails alone.
 fn text_of_steps(
     alloc: Global,
     course: &Course,
@@ -199,7 +199,7 @@ fn text_of_steps(
     Ok(text)
 }
 
-/// The run in which the command of this number fails alone, the one at place `k` of the step at a place.
+/// The run in which the command with this number fails alone: the one at place `k` of the step at a place.
 fn check_command(
     rt: &(impl Abort + AllocGlobal),
     course: &Course,
@@ -212,7 +212,7 @@ fn check_command(
     check_listed(rt, &[number], asked, text.as_str(), course.values)
 }
 
-/// Runs the steps once for each command, which fails alone. There are so many.
+/// Runs the steps once for each command, which fails alone. There have to be so many commands.
 pub(crate) fn check_course(
     rt: &(impl Abort + AllocGlobal),
     course: &Course,

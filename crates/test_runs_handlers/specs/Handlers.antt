@@ -1,9 +1,9 @@
--- What the handlers of the tests say.
+-- The responses of the tests' handlers.
 use Rattle.std.specs.Prelude.{ℕ, ◌+◌, ◌%◌, ◌^◌, [], ◌∷◌, slice_index}
 use Rattle.pm_base.specs.declared.events.Message.{Message}
 use Rattle.pm_ipi.specs.declared.responses.Response.{Response}
 
--- something else to each word
+-- another response to each word
 abbrev pub told : Message → Response
 told message =
     record {
@@ -11,6 +11,6 @@ told message =
       words = message.api ∷ ((message.api + message.api) % 2 ^ 32) ∷ slice_index message.args 4 ∷ [];
     }
 
--- one word to all
+-- one response to all
 abbrev pub constant : ℕ → Message → Response
 constant word message = record { status = 0; words = word ∷ 0 ∷ 0 ∷ [] }

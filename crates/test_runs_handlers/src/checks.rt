@@ -1,4 +1,4 @@
-//! How a run with modules and tasks is judged.
+//! The comparisons of a run with modules and tasks with its text and exit.
 
 use super::running::run_with_board;
 use pm_base::Exit;
@@ -9,7 +9,8 @@ use std::process::Abort;
 use std::test::Fail;
 use test_fixtures::Asked;
 
-/// Compares a run with modules and tasks over a sink with this room, and a device that doesn't fail, with its text and exit.
+/// Compares a run with its text and exit, with modules and tasks, over a sink with this room and a device that
+/// doesn't fail.
 pub(crate) fn check_with<H: Responder, T: Handler>(
     rt: &(impl Abort + AllocGlobal),
     asked: &Asked,

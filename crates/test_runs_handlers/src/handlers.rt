@@ -51,7 +51,7 @@ fn check_program(
     check_with(rt, asked, &modules, &mut tasks, room, text, exit)
 }
 
-/// Compares the run of a script after its first line, `ipi 1 21`, with its text after that line's.
+/// Compares the run of a script after its first line `ipi 1 21` with its text after that line's.
 fn check_row(rt: &(impl Abort + AllocGlobal), script: &str, text: &str) -> Result<(), Fail> {
     let script = joined(rt.alloc(), &["ipi 1 21\n", script])?;
     let asked = replay_of(BOXES, script.as_slice());
@@ -59,7 +59,7 @@ fn check_row(rt: &(impl Abort + AllocGlobal), script: &str, text: &str) -> Resul
     check_program(rt, &asked, None, &whole, Exit::Done)
 }
 
-/// A script after its first line, `ipi 1 21`, and its text after that line's.
+/// A script after its first line `ipi 1 21`, and its text after that line's.
 static ROWS: [(&str, &str); 5] = [
     // words of both modules, a word of none, and a dropped message
     (
@@ -93,7 +93,7 @@ fn modules_answer_and_tasks_are_called(rt: HostRuntime) -> Result<(), Fail> {
     Ok(())
 }
 
-/// Compares a run over a sink with room for so many bytes, at which the text breaks off, with those bytes of the whole text.
+/// Compares a run whose sink has room for so many bytes with so many bytes of the whole text.
 fn check_front(
     rt: &(impl Abort + AllocGlobal),
     asked: &Asked,

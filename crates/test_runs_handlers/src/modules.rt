@@ -10,7 +10,7 @@ use std::process::Abort;
 use std::test::Fail;
 use test_fixtures::{BOXES, BOXES_CLOSED, BOXES_SETTLED, joined, replay_of};
 
-/// Says something else to each word: status 7, the word, its double and the fifth argument.
+/// A handler with another response to each word: status 7, the word, its double and the fifth argument.
 #[derive(Drop)]
 struct Telling;
 
@@ -28,7 +28,7 @@ impl Responder for Telling {
     }
 }
 
-/// Says status 0 and a word, whatever it is asked.
+/// A handler with one response to all: status 0 and a word.
 #[derive(Drop)]
 struct Constant {
     word: u32,
@@ -47,7 +47,7 @@ impl Responder for Constant {
     }
 }
 
-/// A module of these words is added, if it can be.
+/// Adds a module of these words, if it can be added.
 fn add(modules: &mut Modules, range: (u32, u32), handler: Box<dyn Responder>) {
     let (first, last) = range;
     if 256 <= first && first <= last && last <= 65535 {
@@ -55,7 +55,7 @@ fn add(modules: &mut Modules, range: (u32, u32), handler: Box<dyn Responder>) {
     }
 }
 
-/// A module of these words that says a word is added, if it can be.
+/// Adds a module that responds to these words with this word, if it can be added.
 fn add_constant(
     alloc: Global,
     modules: &mut Modules,
@@ -101,8 +101,8 @@ fn a_handler_may_have_one_word(rt: HostRuntime) -> Result<(), Fail> {
     check_modules(&rt, &modules, "ipi 1 300\n", "2 reply 1 0 5 0 0\n")
 }
 
-/// Ranges that are added one after another. Each answers its place; those that have a word in common with an earlier
-/// one aren't added: one that lies in it, and two that meet it at one word.
+/// Ranges that are added one after another. Each responds with its index. Those with a word in common with an earlier
+/// one aren't added: one within it, and two that share one word with it.
 static RANGES: [(u32, u32); 6] = [
     (300, 310),
     (311, 320),

@@ -1,4 +1,5 @@
-//! A run with modules and tasks: the one place in which these tests make the call, of which nothing is said to them.
+//! A run with modules and tasks. Only here these tests make the top call; without its contract they are cheap to
+//! prove.
 
 ghost use Rattle.std.specs.Prelude.{◌≡◌};
 ghost use Rattle.pm_base.specs.declared.names.Unit.{Unit};
@@ -35,7 +36,7 @@ pub(crate) fn run_with_board<H: Responder, T: Handler>(
     ))
 }
 
-/// The call itself.
+/// The call of the top function.
 fn run_words<D: Device, H: Responder, T: Handler>(
     alloc: Global,
     words: &[String],

@@ -12,7 +12,7 @@ use test_fixtures::{
     replay_of,
 };
 
-/// Keeps the time of its last call, and its count goes on past the end of a word.
+/// A handler that keeps the time of its last call; its count wraps around at the end of a word.
 #[derive(Drop)]
 struct Noting {
     calls: u32,
@@ -33,15 +33,15 @@ impl Handler for Noting {
     }
 }
 
-/// A task is added under the next key.
+/// Adds a task under the next key.
 fn add(tasks: &mut Tasks, handler: Box<dyn Handler>) {
-    // No call is left, as `add` asks.
+    // no call is left, as `add` requires
     if tasks.take().is_none() {
         let _key = tasks.add(handler);
     }
 }
 
-/// A task whose handler was called so often before is added under the next key.
+/// Adds a task under the next key, whose handler was called so often before.
 fn add_called(alloc: Global, tasks: &mut Tasks, calls: u32) -> Result<(), NoMemory> {
     let handler = Box::new(alloc, Noting { calls, last: 0 }).map_err(|_| NoMemory)?;
     add(tasks, handler);
@@ -57,7 +57,7 @@ fn tasks_called(alloc: Global, calls: &[u32]) -> Result<Tasks, NoMemory> {
     Ok(tasks)
 }
 
-/// Compares the run of a script after its first line, `ipi 1 21`, with its text, which comes in pieces.
+/// Compares the run of a script after its first line `ipi 1 21` with its text, which comes in pieces.
 fn check_tasks(
     rt: &(impl Abort + AllocGlobal),
     calls: &[u32],
@@ -73,7 +73,7 @@ fn check_tasks(
     check_with(rt, &asked, &modules, &mut tasks, None, &whole, Exit::Done)
 }
 
-/// A script after its first line, and its text after that line's, where five tasks were never called.
+/// A script after its first line, and its text after that line's, with five tasks that were never called.
 static ROWS: [(&str, &str); 4] = [
     // intervals of 1, of the tick's length and its neighbours, and the longest
     (
@@ -162,7 +162,7 @@ task 0 7
 tick 7
 ";
 
-/// Their calls, by rising key. Each handler was called as often before as its key says.
+/// The lines of their calls, by rising key. Each handler was called as often before as its key says.
 const THIRTY_TOLD: &str = "32 task 0 7 1
 32 task 1 7 2
 32 task 2 7 3

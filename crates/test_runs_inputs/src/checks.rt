@@ -1,4 +1,4 @@
-//! How a run is judged.
+//! The comparisons of a run with its text and exit.
 
 use super::running::run;
 use pm_base::Exit;
@@ -7,7 +7,7 @@ use std::process::Abort;
 use std::test::Fail;
 use test_fixtures::{Asked, joined};
 
-/// Compares a run over a sink with this room, and a device that doesn't fail, with its text and exit.
+/// Compares a run with its text and exit, over a sink with this room and a device that doesn't fail.
 pub(crate) fn check(
     rt: &(impl Abort + AllocGlobal),
     asked: &Asked,
@@ -26,7 +26,7 @@ pub(crate) fn check(
     Ok(())
 }
 
-/// Compares a run over a sink that grows with its text, which comes in pieces, and its exit.
+/// Compares a run with its text, which comes in pieces, and its exit, over a sink that grows.
 pub(crate) fn check_joined(
     rt: &(impl Abort + AllocGlobal),
     asked: &Asked,

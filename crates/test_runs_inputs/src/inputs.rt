@@ -24,7 +24,7 @@ end proc 7 1 1
 end power 62 1 1
 ";
 
-/// How the words, and the input and the byte at which a read fails, end: the text and the exit.
+/// A row: the ends of the words, the input and the byte at which a read fails, the text and the exit.
 static FAILING: [(&str, &[(u32, u32)], &str, Exit); 8] = [
     ("replay obj script", &[(0, 41)], WHOLE, Exit::Done),
     ("replay obj script", &[(1, 22)], WHOLE, Exit::Done),
@@ -51,7 +51,7 @@ fn an_input_that_fails(rt: HostRuntime) -> Result<(), Fail> {
     Ok(())
 }
 
-/// An object, a script, the input whose reads fail from one byte to before another one, and what is written.
+/// A row: an object, a script, the input whose reads fail from one byte to before another, and the text.
 type Span = (
     &'static [u32],
     &'static [u8],
@@ -69,7 +69,7 @@ static SPANS: [Span; 3] = [
     (ALONE, SCRIPT, 1, 11, 22, &[STARTED, "1 drop 8\n", FAULT]),
 ];
 
-/// A script in which a serial port is requested, and what is written of it.
+/// A script in which a serial port is requested, and its text.
 const TWO_LINES: &[u8] = b"ipi 1 21\nipi 1 13 33 1 0 2\n";
 
 const ONE_LINE: &[u8] = b"ipi 1 21\n";
@@ -85,7 +85,7 @@ static SPANS_OF_LINES: [Span; 5] = [
     (LABORATORY, TWO_LINES, 0, 0, 161, &[FAULT]),
     (LABORATORY, TWO_LINES, 1, 0, 9, &[LOADED, FAULT]),
     (LABORATORY, TWO_LINES, 1, 9, 27, &[LOADED, SETTLED, FAULT]),
-    // the end of a script is read, and so fails
+    // the end of a script is read, and this read fails
     (
         LABORATORY,
         TWO_LINES,
@@ -97,7 +97,7 @@ static SPANS_OF_LINES: [Span; 5] = [
     (LABORATORY, ONE_LINE, 1, 9, 10, &[LOADED, SETTLED, FAULT]),
 ];
 
-/// Runs a replay once for each byte of a span, at which a read fails.
+/// Makes a replay once for each byte of a span, at which a read fails.
 fn check_span(rt: &(impl Abort + AllocGlobal), span: &Span) -> Result<(), Fail> {
     let (object, script, input, first, end, pieces) = *span;
     for at in first..end {
@@ -126,8 +126,8 @@ fn an_input_of_several_lines_that_fails_at_each_byte(rt: HostRuntime) -> Result<
     Ok(())
 }
 
-/// Words, the input and the byte at which a read fails, and the value of LPD after the run: a device is
-/// commanded only once a script was begun.
+/// A row: words, the input and the byte at which a read fails, and the value of LPD after the run. A device gets
+/// commands only after a script was opened.
 static BEGUN: [(&str, (u32, u32), u32); 7] = [
     ("replay obj", (9, 0), 0),
     ("replay no script", (9, 0), 0),

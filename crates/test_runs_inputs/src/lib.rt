@@ -1,4 +1,4 @@
-//! Tests of whole runs over inputs: ones that fail, that are cut or at their limits, and the topology of a file.
+//! Tests of whole runs over inputs: failing ones, cut ones, ones at their limits, and the topology of a file.
 #![tactic(auto)]
 
 #[cfg(test)]

@@ -1,4 +1,4 @@
-//! Runs of a script of the limit, and of one byte more.
+//! Runs of a script of the greatest size, and of one byte more.
 
 use super::checks::check;
 use pm_base::Exit;
@@ -7,7 +7,7 @@ use std::alloc::{AllocError, Global};
 use std::test::Fail;
 use test_fixtures::{OBJECT, OBJECT_CLOSED, OBJECT_LOADED, joined, replay_of};
 
-/// A script of the most bytes: comments of 255 bytes with their line feeds.
+/// A script of the greatest size: comments of 255 bytes with their line feeds.
 fn script_of_the_limit(alloc: Global) -> Result<Vec<u8>, AllocError> {
     let mut line = [b' '; 256];
     line[0] = b'#';
@@ -46,8 +46,7 @@ fn a_script_of_one_byte_more_than_the_limit(rt: HostRuntime) -> Result<(), Fail>
     )
 }
 
-/// Where the sink fails within the body the exit is WriteFault, and where it fails on the fault line alone
-/// it stays.
+/// If the sink fails within the body the exit is WriteFault; if it fails only on the fault line, the exit stays.
 #[test]
 fn such_a_script_over_a_sink_of_each_side_of_the_body(rt: HostRuntime) -> Result<(), Fail> {
     let script = longer_script(rt.alloc())?;

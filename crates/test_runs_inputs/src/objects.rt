@@ -1,4 +1,4 @@
-//! Runs over objects that are cut, and of bytes about the most that an object has.
+//! Runs over cut objects, and over bytes around the greatest size of an object.
 
 use super::checks::check;
 use pm_base::Exit;
@@ -7,7 +7,7 @@ use std::process::Abort;
 use std::test::Fail;
 use test_fixtures::{Asked, USUAL, bytes_of};
 
-/// Prints bytes that are no object: the cause, and the words before the fault.
+/// Prints bytes that are no object: the row has the cause, and the number of words before the fault.
 fn check_fault(
     rt: &(impl Abort + AllocGlobal),
     bytes: &[u8],
@@ -30,14 +30,15 @@ fn an_object_that_is_cut_at_each_byte(rt: HostRuntime) -> Result<(), Fail> {
     let bytes = bytes_of(rt.alloc(), USUAL)?;
     for length in 0..bytes.len() {
         let front = bytes.get(..length).ok_or("a front")?;
-        // a missing word, or a word that is cut
+        // a missing word, or a cut word
         let cause = if length % 4 == 0 { 3 } else { 1 };
         check_fault(&rt, front, cause, length / 4)?;
     }
     Ok(())
 }
 
-/// How many zero bytes beyond the limit of an object, and the fault: too long, the header's first word, or a cut word.
+/// A row: the number of zero bytes beyond the greatest size of an object, and the fault: too long, the header's first
+/// word, or a cut word.
 static ZEROS: [(usize, usize, usize); 3] = [(2, 2, 4096), (1, 4, 0), (0, 1, 4095)];
 
 #[test]

@@ -1,4 +1,4 @@
-//! A run over what is asked for: the one place in which these tests make the call, of which nothing is said to them.
+//! A run over given inputs. Only here these tests make the top call; without its contract they are cheap to prove.
 
 ghost use Rattle.std.specs.Prelude.{◌≡◌};
 ghost use Rattle.pm_base.specs.declared.names.Unit.{Unit};
@@ -19,7 +19,7 @@ pub(crate) fn run<O: Sink>(alloc: Global, asked: &Asked, out: &mut O) -> Result<
     run_with(alloc, asked, out, &mut *device)
 }
 
-/// A run over any sink, and any device that stands at 0, without modules and tasks.
+/// A run over any sink, and any device with all units at 0, without modules and tasks.
 pub(crate) fn run_with<O: Sink, D: Device>(
     alloc: Global,
     asked: &Asked,
@@ -33,7 +33,7 @@ pub(crate) fn run_with<O: Sink, D: Device>(
     Ok(run_words(alloc, &words, &mut inputs, out, dev)?)
 }
 
-/// The call itself.
+/// The call of the top function.
 fn run_words<O: Sink, D: Device>(
     alloc: Global,
     words: &[String],

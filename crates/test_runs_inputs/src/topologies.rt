@@ -45,7 +45,8 @@ const MESSAGES: &str =
 
 const REPLAY: &str = "replay obj script topo";
 
-/// Words, an object, the parts of the text of the topology, bytes at which reads fail, the text of the run and its exit.
+/// A row: words, an object, the parts of the topology's text, the bytes at which reads fail, the text of the run and
+/// its exit.
 type Case = (
     &'static str,
     &'static [u32],
@@ -220,14 +221,15 @@ fn check_case(
     check(rt, &asked, None, text.as_bytes(), exit)
 }
 
-/// What a run that is Done writes.
+/// The text of a run that ends with Done.
 fn written_by(rt: &(impl Abort + AllocGlobal), asked: &Asked) -> Result<MemSink, Fail> {
     let mut out = MemSink::new(rt.alloc(), None)?;
     assert_eq!(rt; run(rt.alloc(), asked, &mut out)?, Exit::Done);
     Ok(out)
 }
 
-/// A run over a topology is over its units, and its faults come between those of the object and of the word of a master.
+/// A run over a topology has its units. The faults of the topology come between those of the object and of the word
+/// of a master.
 #[test]
 fn topologies_are_read(rt: HostRuntime) -> Result<(), Fail> {
     for case in &CASES {
@@ -237,7 +239,7 @@ fn topologies_are_read(rt: HostRuntime) -> Result<(), Fail> {
     Ok(())
 }
 
-/// The text of the chip's topology is read again as that topology: a run over it is as one over the chip.
+/// The text of the chip's topology is read again as that topology: a run over it is a run over the chip.
 #[test]
 fn the_table_of_the_chip_is_read_again(rt: HostRuntime) -> Result<(), Fail> {
     let mut asked = Asked {

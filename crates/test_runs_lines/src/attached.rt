@@ -1,17 +1,18 @@
-//! Runs whose first lines attach objects, which can be put in force.
+//! Runs whose first lines attach objects that can be put in force.
 
 use super::checks::check_joined;
 use pm_base::Exit;
 use std::test::Fail;
 use test_fixtures::{Asked, OBJECT_CLOSED, OBJECT_LOADED};
 
-/// The object of two masters, in which master 1 may set the configuration: at load as without that.
+/// The object of two masters, with a record that lets master 1 set the configuration. Its load is that of the object
+/// without the record.
 const CONFIGURED: &[u32] = &[
     2, 3, 1, 0x101, 2, 1, 0x1, 100, 0, 0, 7, 0x100, 100, 0, 0, 0x102, 2, 11, 1, 0x101, 33, 0, 0x1,
     0x107, 1, 0,
 ];
 
-/// A script, what it writes behind the load, what it writes at its end, and the exit.
+/// A row: a script, its text after the load's, its closing table, and the exit.
 static RUNS: [(&str, &str, &str, Exit); 7] = [
     // no words
     (
@@ -20,7 +21,7 @@ static RUNS: [(&str, &str, &str, Exit); 7] = [
         OBJECT_CLOSED,
         Exit::Done,
     ),
-    // the words of one address are joined, also where those of another stand between them
+    // the words of one address are joined, even with those of another between them
     (
         "object 8 2\nobject 9 2\nobject 8 1\nipi 1 2 8\nipi 1 2 9\n",
         "4 reply 1 15 3 2 0\n5 reply 1 15 3 1 0\n",
@@ -35,7 +36,7 @@ static RUNS: [(&str, &str, &str, Exit); 7] = [
         OBJECT_CLOSED,
         Exit::Done,
     ),
-    // a seventeenth address ends the block, and words for an earlier one come too late then
+    // a seventeenth address ends the block; words for an earlier one then come too late
     (
         "object 1 1
 object 2 1
@@ -63,7 +64,7 @@ ipi 1 2 17
         OBJECT_CLOSED,
         Exit::Done,
     ),
-    // a bad line in the block counts when the lines before it have been run
+    // a bad line in the block counts after the lines before it have been run
     (
         "object 8 1\nobject\nobject 8 1\n",
         "",
@@ -88,7 +89,7 @@ fn each_run_with_attached_objects_writes_its_text(rt: HostRuntime) -> Result<(),
     Ok(())
 }
 
-/// A read that fails in the block counts when the lines before it have been run.
+/// A failed read in the block counts after the lines before it have been run.
 #[test]
 fn a_read_that_fails_in_the_block_is_told_after_the_load(rt: HostRuntime) -> Result<(), Fail> {
     let asked = Asked {

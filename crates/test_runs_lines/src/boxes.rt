@@ -1,4 +1,4 @@
-//! Runs in which masters put messages into their boxes, from which they are served later.
+//! Runs in which masters put messages into their boxes, and a later line serves them.
 
 use super::checks::{check, check_broken_off, check_joined, check_pieces};
 use super::steps::check_settled;
@@ -6,9 +6,10 @@ use pm_base::Exit;
 use std::test::Fail;
 use test_fixtures::{Asked, BOXES, BOXES_SETTLED, OBJECT, joined, replay_of};
 
-/// A script over the laboratory's object after its first line, `ipi 1 21`, and its text after that line's.
+/// A script over the laboratory's object and after its first line `ipi 1 21`, and its text after that line's.
 static SERVED_RUNS: [(&str, &str); 5] = [
-    // master 1 is served first, whose mask is less; a full box keeps its message; the message of no master is dropped
+    // master 1, whose mask is less, is served first; a full box keeps its message; a message of no master is
+    // dropped
     (
         "boot 7 0
 post 7 13 39 1 0 2
@@ -35,7 +36,7 @@ end slave 39 1 1
 end power 62 1 1
 ",
     ),
-    // a master falls while its message waits
+    // a master is switched off while its message waits
     (
         "boot 7 0\npost 1 1\nipi 7 8 10 2\nserve\n",
         "2 set 6 0 1
@@ -51,7 +52,7 @@ end proc 7 1 1
 end power 62 1 1
 ",
     ),
-    // a master that is off fills its box, which is empty once its message was dropped
+    // a master that is off fills its box, which is empty after its message was dropped
     (
         "post 7 13 39 1 0 2\nserve\nboot 7 0\nserve\n",
         "3 drop 7
@@ -95,10 +96,10 @@ fn each_run_with_messages_in_boxes_writes_its_text(rt: HostRuntime) -> Result<()
     check_settled(&rt, &SERVED_RUNS)
 }
 
-/// A script over the object of three masters after its first line, `ipi 1 21`, and its text after that line's. By their
-/// masks master 7 comes first, then 8, and then 1.
+/// A script over the object of three masters and after its first line `ipi 1 21`, and its text after that line's. By
+/// their masks master 7 comes first, then 8, and then 1.
 static ORDERED_RUNS: [(&str, &str); 6] = [
-    // the first message forces the master down whose message is served after it
+    // the first message forces off the master whose message is served after it
     (
         "boot 7 0\npost 1 13 33 1 0 2\npost 7 8 10 2\nserve\n",
         "2 set 6 0 1
@@ -114,7 +115,8 @@ end proc 7 1 1
 end power 62 1 1
 ",
     ),
-    // the first message restarts all: one later master is off then, and the slave that another used is free again
+    // the first message restarts everything: a later master is off then, and the slave that another one used is
+    // free again
     (
         "boot 7 0
 boot 8 0
@@ -148,7 +150,7 @@ end slave 33 1 1
 end power 62 1 1
 ",
     ),
-    // all is halted: boxes keep what they hold and are filled, and are empty once they were served
+    // after a halt, boxes keep their messages and can be filled, and are empty after they were served
     (
         "boot 7 0
 post 1 1
@@ -174,7 +176,8 @@ post 8 1
 end power 62 1 1
 ",
     ),
-    // a master that went to sleep isn't heard; one that fills its box in its sleep is, if it is awake at the `serve`
+    // a master that went to sleep isn't heard; one that fills its box in its sleep is heard, if it is awake at the
+    // `serve`
     (
         "boot 7 0
 post 1 13 33 1 0 2
@@ -225,7 +228,7 @@ end power 10 1 1
 end power 62 1 1
 ",
     ),
-    // what fails is tried again after each message that is served, and before a full box is told
+    // a failed command is tried again after each served message, and before a full box is told
     (
         "boot 7 0
 break 33
@@ -270,7 +273,7 @@ fn each_message_is_served_on_what_the_one_before_left(rt: HostRuntime) -> Result
     Ok(())
 }
 
-/// The lines of a full box and of two messages that are served, and what stands before and after them.
+/// The lines of a full box and of two served messages, and the text before and after them.
 const BOOTED: &str = "2 set 6 0 1\n2 set 7 0 1\n2 run 7 0\n";
 
 const SERVED: &str = "5 busy 7
@@ -311,8 +314,8 @@ ipi 9 1
     Ok(())
 }
 
-/// What master 7 reaches in the object of two masters, a script in which both put a message into their boxes, and what
-/// differs without those of master 7: the slave that it uses.
+/// The reach of master 7 over the object of two masters; a script in which both put a message into their boxes; and
+/// the difference without those of master 7: the slave that it uses.
 const REACH: &str = "master 7 self 7
 slave 11 use 7
 power 6 above 7

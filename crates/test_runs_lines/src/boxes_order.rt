@@ -1,20 +1,19 @@
-//! Runs over objects in which the order of the masks is neither that of the masters in the object nor that of their
-//! nodes.
+//! Runs over objects in which the order of the masks is neither that of the masters nor that of their nodes.
 
 use super::checks::check;
 use pm_base::Exit;
 use std::test::Fail;
 use test_fixtures::{DOMAINS, replay_of};
 
-/// Two masters, of which the one with the greater node has the lesser mask, and the other the last bit of a word. Both
-/// may use the slave 39, which can't be shared.
+/// Two masters. The one with the greater node has the lesser mask; the other has the last bit of a word as its mask.
+/// Both may use the slave 39, which can't be shared.
 const LAST_BIT: &[u32] = &[
     2, 2, 1, 0x101, 2, 1, 0x80000000, 100, 0, 0, 7, 0x1, 100, 0, 0, 0x102, 1, 39, 0, 0x80000001,
 ];
 
-/// An object, a script in which both masters put a message into their boxes, and its whole text.
+/// A row: an object, a script in which both masters put a message into their boxes, and its whole text.
 static ORDERED: [(&[u32], &str, &str); 2] = [
-    // master 8 is the first one of the object, and its message comes first; the mask of master 7 is less
+    // master 8 is the first of the object, and its message comes first; but the mask of master 7 is less
     (
         DOMAINS,
         "boot 7 0\npost 8 13 33 1 0 2\npost 7 13 33 1 0 2\nserve\n",
@@ -34,7 +33,7 @@ end slave 33 1 1
 end power 62 1 1
 ",
     ),
-    // the node of master 1 is less, but its mask is the greatest that there is: the slave is in use by master 7
+    // the node of master 1 is less, but its mask is the greatest one: master 7 gets the slave
     (
         LAST_BIT,
         "ipi 1 21\nboot 7 0\npost 1 13 39 1 0 2\npost 7 13 39 1 0 2\nserve\n",

@@ -1,4 +1,4 @@
-//! How a run is judged.
+//! The comparisons of a run with its text and exit.
 
 use super::running::run;
 use pm_base::Exit;
@@ -26,7 +26,7 @@ pub(crate) fn check(
     Ok(())
 }
 
-/// Compares a run over a sink with room for so many bytes, at which the text breaks off, with those bytes of the whole text.
+/// Compares a run whose sink has room for so many bytes with so many bytes of the whole text.
 pub(crate) fn check_broken_off(
     rt: &(impl Abort + AllocGlobal),
     asked: &Asked,
@@ -43,7 +43,7 @@ pub(crate) fn check_broken_off(
     )
 }
 
-/// Compares the run of a script over an object with its text, where both come in pieces.
+/// Compares the run of a script over an object with its text; both come in pieces.
 pub(crate) fn check_pieces(
     rt: &(impl Abort + AllocGlobal),
     object: &[u32],
@@ -55,7 +55,7 @@ pub(crate) fn check_pieces(
     check(rt, &replay_of(object, &script), None, &whole, Exit::Done)
 }
 
-/// Compares what is asked for with a text that comes in pieces, and an exit.
+/// Compares a run with its text, which comes in pieces, and its exit.
 pub(crate) fn check_joined(
     rt: &(impl Abort + AllocGlobal),
     asked: &Asked,

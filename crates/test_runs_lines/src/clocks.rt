@@ -1,5 +1,5 @@
-//! Runs with calls on clocks: their replies, the lines of clocks that begin or cease to run, and the closing lines of those that
-//! run.
+//! Runs with calls on clocks: their replies, the lines of clocks that start or stop, and the closing lines of those
+//! that run.
 
 use super::checks::{check, check_broken_off, check_joined};
 use pm_base::Exit;
@@ -14,7 +14,7 @@ const CLOCKED: &[u32] = &[
     53, 1, 0x1, 54, 1, 0x1, 0x104, 1, 1, 0x100,
 ];
 
-/// What a run over it writes at load, where each slave is held in its last state.
+/// The text of its load, at which each slave is held in its last state.
 const LOADED: &str = "0 set 10 0 1
 0 set 62 0 1
 0 set 1 0 1
@@ -26,7 +26,7 @@ const LOADED: &str = "0 set 10 0 1
 0 run 2 0
 ";
 
-/// The closing table of a run that leaves all as it is then, without the lines of clocks; and after `boot 7 0` too.
+/// The units' closing table of a run that leaves all so; also after `boot 7 0`.
 const HELD: &str = "end power 1 1 1
 end proc 2 1 1
 end power 10 1 1
@@ -49,9 +49,9 @@ end slave 54 1 1
 end power 62 1 1
 ";
 
-/// A script, its lines after the load's, the closing table of the units, and that of the clocks.
+/// A row: a script, its lines after the load's, the closing table of the units, and that of the clocks.
 static RUNS: [(&str, &str, &str, &str); 9] = [
-    // enable, state, a divider that is too large, a root that can't be enabled, and disable
+    // enable, state, a divider that is too large, a root that can't be enabled, disable
     (
         "ipi 1 36 5\nipi 1 38 5\nipi 1 39 5 64\nipi 1 36 4\nipi 1 37 5\n",
         "1 reply 1 0 0 0 0
@@ -65,7 +65,7 @@ static RUNS: [(&str, &str, &str, &str); 9] = [
         HELD,
         "",
     ),
-    // a clock under one that doesn't run yet begins with it; both cease where the phase-locked loop goes down
+    // a clock below one that doesn't run yet starts with it; both stop if the phase-locked loop goes down
     (
         "ipi 1 36 14\nipi 1 36 5\nipi 1 21\n",
         "1 reply 1 0 0 0 0
@@ -83,7 +83,7 @@ static RUNS: [(&str, &str, &str, &str); 9] = [
         "end power 1 1 1\nend proc 2 1 1\nend power 10 1 1\nend power 62 1 1\n",
         "",
     ),
-    // what is chosen is told, and stands in the closing lines
+    // dividers and parents are told when asked, and are in the closing lines
     (
         "ipi 1 36 5\nipi 1 39 5 63\nipi 1 40 5\nipi 1 43 5 1\nipi 1 44 5\nipi 1 36 14\nipi 1 43 14 1\n",
         "1 reply 1 0 0 0 0
@@ -99,7 +99,8 @@ static RUNS: [(&str, &str, &str, &str); 9] = [
         HELD,
         "end clock 5 63 1\nend clock 14 1 1\n",
     ),
-    // each refusal: another master enables it, no permission, no such parent, no such clock; roots are asked for their state
+    // each refusal: another master enables it, no permission, no such parent, no such clock; roots may be asked
+    // for their state
     (
         "boot 7 0\nipi 7 36 5\nipi 1 39 5 2\nipi 7 36 14\nipi 7 38 14\nipi 1 43 5 2\nipi 1 36 16\nipi 1 38 4\nipi 1 38 0\n",
         "1 set 6 0 1
@@ -118,7 +119,8 @@ static RUNS: [(&str, &str, &str, &str); 9] = [
         BOTH_HELD,
         "end clock 5 1 0\n",
     ),
-    // the message of a master that is off is dropped; a clock that two masters enable runs on where one of them shuts down
+    // the message of a master that is off is dropped; a clock that two masters enable runs on if one of them shuts
+    // down
     (
         "ipi 7 36 5\nboot 7 0\nipi 7 36 5\nipi 1 36 5\nipi 7 12 0 0\nipi 1 37 5\n",
         "1 drop 7
@@ -137,7 +139,7 @@ static RUNS: [(&str, &str, &str, &str); 9] = [
         HELD,
         "",
     ),
-    // a master that is forced off enables nothing any more, and doesn't when it is started again
+    // a master that is forced off enables nothing any more, nor does it after it is started again
     (
         "boot 7 0\nipi 1 36 5\nipi 7 8 1 2\nboot 2 0\nipi 1 13 54 1 0 2\n",
         "1 set 6 0 1
@@ -171,7 +173,7 @@ end power 62 1 1
 ",
         "",
     ),
-    // one that is off and active again within a step goes on enabling it
+    // a master that is off and active again within a step keeps its enables
     (
         "ipi 1 36 5\nipi 1 12 1 0\nipi 1 13 54 1 0 2\n",
         "1 reply 1 0 0 0 0
@@ -195,7 +197,8 @@ end power 62 1 1
 ",
         "end clock 5 1 0\n",
     ),
-    // two calls in one line: what began is told once, after both, and what is as it was before the line isn't
+    // two calls in one line: a clock that started is told once, after both; one that is as before the line isn't
+    // told
     (
         "boot 7 0\npost 1 36 5\npost 7 36 5\nserve\npost 1 37 5\npost 7 39 5 2\nserve\npost 1 36 5\npost 7 37 5\nserve\n",
         "1 set 6 0 1
@@ -212,7 +215,7 @@ end power 62 1 1
         BOTH_HELD,
         "end clock 5 2 0\n",
     ),
-    // an enable that is there already, and one that isn't there, change nothing
+    // enabling an enabled clock, and disabling one that isn't, change nothing
     (
         "ipi 1 37 5\nipi 1 36 5\nipi 1 36 5\nipi 1 37 5\nipi 1 37 5\n",
         "1 reply 1 0 0 0 0

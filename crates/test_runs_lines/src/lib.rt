@@ -1,4 +1,4 @@
-//! Tests of whole runs: what each kind of line of a script does.
+//! Tests of whole runs: the effects of each kind of script line.
 #![tactic(auto)]
 
 #[cfg(test)]

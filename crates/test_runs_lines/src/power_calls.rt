@@ -1,12 +1,12 @@
-//! Runs with power calls, which come to messages of master 1 and to the wait of one of its processors.
+//! Runs with power calls, which become messages of master 1 and waits of its processors.
 
 use super::checks::{check, check_broken_off, check_pieces};
 use pm_base::Exit;
 use std::test::Fail;
 use test_fixtures::{Asked, BOXES, BOXES_SETTLED, OBJECT, joined, replay_of};
 
-/// The lines of a processor that is started, of one that stops, of one that is asked for, and of a call of another
-/// master's processor, and what stands after them.
+/// The lines of a processor that is started, of one that stops, of a question for one, and of a call of another
+/// master's processor, and the text after them.
 const CALLED: &str = "2 set 3 0 1
 2 run 3 4096
 2 reply 1 0 0 0 0
@@ -45,15 +45,15 @@ ipi 9 1
     Ok(())
 }
 
-/// Three masters, of which 1 may shut down all.
+/// Three masters, the first of which may shut down everything.
 const SHUTTING: &[u32] = &[
     2, 3, 1, 0x101, 3, 1, 0x4, 100, 0, 0, 7, 0x1, 100, 0, 0, 8, 0x2, 100, 0, 0, 0x102, 2, 11, 1,
     0x7, 33, 0, 0x7, 0x106, 1, 2, 0x4,
 ];
 
-/// An object, a script after its first line, `ipi 1 21`, and its text after that line's.
+/// A row: an object, a script after its first line `ipi 1 21`, and its text after that line's.
 static CALLS: [(&[u32], &str, &str); 6] = [
-    // each call, with the answers of those that are done and of those that are refused
+    // each call, with the answers of those that are done and those that are refused
     (
         BOXES,
         "smc 2 0xC4000003 1 4096 0
@@ -82,7 +82,7 @@ end power 10 1 1
 end power 62 1 1
 ",
     ),
-    // the last processor stops itself, and the calls after it aren't heard
+    // the last processor stops itself, and later calls aren't heard
     (
         BOXES,
         "smc 7 0x84000002
@@ -101,7 +101,7 @@ end proc 2 2 0
 end power 62 1 1
 ",
     ),
-    // both forms, with arguments above 32 bits, and what each refuses
+    // both forms, with arguments above 32 bits, and the refusals of each
     (
         BOXES,
         "smc 2 0x84000003 0x900000001 0x700001000
@@ -136,7 +136,7 @@ end power 10 1 1
 end power 62 1 1
 ",
     ),
-    // a processor that suspends already is refused, and sleeps all the same
+    // a processor that suspends already is refused, and sleeps nevertheless
     (
         BOXES,
         "smc 2 0xC4000003 1 4096
@@ -161,7 +161,7 @@ end power 10 1 1
 end power 62 1 1
 ",
     ),
-    // a restart of all, and calls after it
+    // a restart of everything, and calls after it
     (
         SHUTTING,
         "smc 2 0x84000009
@@ -183,7 +183,7 @@ end slave 33 1 1
 end power 62 1 1
 ",
     ),
-    // a shutdown of all, after which no message is heard; what sends none is answered
+    // a shutdown of everything, after which no message is heard; a call without a message is still answered
     (
         SHUTTING,
         "smc 2 0x84000008
@@ -213,7 +213,7 @@ fn each_power_call_writes_its_text(rt: HostRuntime) -> Result<(), Fail> {
     Ok(())
 }
 
-/// A power call sends nothing of master 7, so it stays in the run without the messages of that master.
+/// A power call sends no message of master 7, so the run without that master's messages keeps it.
 #[test]
 fn power_calls_stay_in_the_run_without_another_master(rt: HostRuntime) -> Result<(), Fail> {
     let asked = Asked {

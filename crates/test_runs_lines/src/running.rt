@@ -1,4 +1,4 @@
-//! A run: the one place in which these tests make the call, of which nothing is said to them.
+//! A run. Only here these tests make the top call; without its contract they are cheap to prove.
 
 ghost use Rattle.std.specs.Prelude.{◌≡◌};
 ghost use Rattle.pm_base.specs.declared.names.Unit.{Unit};
@@ -21,7 +21,7 @@ pub(crate) fn run(alloc: Global, asked: &Asked, out: &mut MemSink) -> Result<Exi
     Ok(run_words(alloc, &words, &mut inputs, out, &mut *device)?)
 }
 
-/// The call itself.
+/// The call of the top function.
 fn run_words<D: Device>(
     alloc: Global,
     words: &[String],

@@ -1,4 +1,4 @@
-//! Runs whose every step is written out.
+//! Runs with the text of each step.
 
 use super::checks::{check, check_pieces};
 use pm_base::Exit;
@@ -8,7 +8,7 @@ use test_fixtures::{LABORATORY, LABORATORY_LOADED, LABORATORY_SETTLED, OBJECT, r
 
 /// A script over the laboratory's object after its first line, `ipi 1 21`, and its text after that line's.
 static SETTLED_RUNS: [(&str, &str); 2] = [
-    // what a suspending master requires is in force once it sleeps
+    // a suspending master's requirements are in force from its sleep on
     (
         "ipi 1 13 33 1 0 2\nipi 1 7 2 0 0 4096 0\nipi 1 15 33 0 0 2\nipi 1 3 2\nwfi 2\n",
         "2 set 33 0 1
@@ -24,7 +24,7 @@ end proc 2 2 0
 end power 62 1 1
 ",
     ),
-    // a suspend that is aborted, after which a wait does nothing and what was scheduled is dropped
+    // an aborted suspend, after which a wait does nothing and scheduled requirements are dropped
     (
         "ipi 1 13 33 1 0 2
 ipi 1 7 2 0 0 4096 0
@@ -50,7 +50,7 @@ end power 62 1 1
     ),
 ];
 
-/// Compares each run over the laboratory's object whose first line is `ipi 1 21` with its text.
+/// Compares each run over the laboratory's object with the first line `ipi 1 21` with its text.
 pub(crate) fn check_settled(
     rt: &(impl Abort + AllocGlobal),
     runs: &[(&str, &str)],
@@ -71,8 +71,8 @@ fn each_run_of_a_master_that_has_settled_writes_its_text(rt: HostRuntime) -> Res
     check_settled(&rt, &SETTLED_RUNS)
 }
 
-/// A script over the object of two masters, neither of which has finished its initialization, and its
-/// text: what master 1 may use stays held.
+/// A script over the object of two masters, neither of which has finished its initialization, and its text: the
+/// slaves of master 1 stay held.
 static HELD_RUN: (&str, &str) = (
     "boot 7 0
 ipi 7 13 11 2 0 2

@@ -1,11 +1,11 @@
-//! Runs in which masters are woken: by interrupts of slaves and at processors, and by one another.
+//! Runs in which masters are woken: by interrupts of slaves and of processors, and by one another.
 
 use super::steps::check_settled;
 use std::test::Fail;
 
 /// A script over the laboratory's object after its first line, `ipi 1 21`, and its text after that line's.
 static WOKEN_RUNS: [(&str, &str); 6] = [
-    // the interrupt of an armed slave wakes a master that sleeps, and what it required before is in force again
+    // the interrupt of an armed slave wakes a sleeping master, whose requirements are in force again
     (
         "ipi 1 13 33 1 0 2
 ipi 1 11 2 46 1
@@ -37,7 +37,7 @@ end slave 33 1 1
 end power 62 1 1
 ",
     ),
-    // an interrupt before the sleep ends the suspend, and what was scheduled is dropped
+    // an interrupt before the sleep ends the suspend, and scheduled requirements are dropped
     (
         "ipi 1 13 33 1 0 2
 ipi 1 11 2 46 1
@@ -131,7 +131,7 @@ end slave 39 1 1
 end power 62 1 1
 ",
     ),
-    // a master wakes another, which may not wake it, and is told of an acknowledgement by a callback
+    // a master wakes another, which may not wake it, and gets an acknowledgement by a callback
     (
         "ipi 1 10 7 4097 0 2
 ipi 1 10 7 4097 0 2
@@ -155,7 +155,7 @@ end slave 33 1 1
 end power 62 1 1
 ",
     ),
-    // two masters arm one slave, which wakes a processor of each, and of one once the other has disarmed it
+    // two masters arm one slave, which wakes a processor of each; after one has disarmed it, only the other's
     (
         "boot 7 0
 ipi 1 11 2 46 1

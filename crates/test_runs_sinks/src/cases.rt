@@ -1,4 +1,4 @@
-//! Runs of many words over sinks of each length.
+//! Runs of different words, over sinks of each length.
 
 use super::checks::{check, check_uncommanded};
 use pm_base::Exit;
@@ -6,7 +6,7 @@ use std::process::Abort;
 use std::test::Fail;
 use test_fixtures::Asked;
 
-/// Words, an object, the bytes of a script or of a text, the input and the byte at which a read fails,
+/// A case: words, an object, the bytes of a script or of a text, the input and the byte at which a read fails; then
 /// the body, the fault line and the exit.
 pub(crate) type Case = (
     &'static str,
@@ -29,7 +29,7 @@ pub(crate) fn asked_of(case: &Case) -> Asked<'static> {
     }
 }
 
-/// Runs each of these cases over a sink of each length.
+/// Makes the runs of these cases over a sink of each length.
 pub(crate) fn check_cases(rt: &(impl Abort + AllocGlobal), cases: &[Case]) -> Result<(), Fail> {
     for case in cases {
         let (_, _, _, _, body, fault, exit) = case;
@@ -38,7 +38,7 @@ pub(crate) fn check_cases(rt: &(impl Abort + AllocGlobal), cases: &[Case]) -> Re
     Ok(())
 }
 
-/// No node is commanded in any of these cases.
+/// No node gets a command in any of these cases.
 pub(crate) fn check_cases_uncommanded(
     rt: &(impl Abort + AllocGlobal),
     cases: &[Case],
@@ -49,9 +49,9 @@ pub(crate) fn check_cases_uncommanded(
     Ok(())
 }
 
-/// Runs what is asked over a sink of each length up to the whole text, which takes as much of it. Where
-/// the sink fails within the body the exit is WriteFault; within the fault line, also before its first
-/// byte, it stays.
+/// Makes a run over a sink of each length up to the whole text; each takes as much of the text as fits. If the sink
+/// fails within the body the exit is WriteFault; if it fails on the fault line, even before its first byte, the exit
+/// stays.
 pub(crate) fn check_each_length(
     rt: &(impl Abort + AllocGlobal),
     asked: &Asked,
@@ -70,7 +70,7 @@ pub(crate) fn check_each_length(
     check_length(rt, asked, &text, text.len(), exit)
 }
 
-/// Runs what is asked over a sink of one length.
+/// Makes a run over a sink of one length.
 fn check_length(
     rt: &(impl Abort + AllocGlobal),
     asked: &Asked,
@@ -82,7 +82,8 @@ fn check_length(
     check(rt, asked, u32::try_from(length).ok(), front, exit)
 }
 
-/// Runs a case once for each of the first bytes of an input, at which a read fails. This is its text then.
+/// Makes the run of a case once for each of the first bytes of an input, at which a read fails. This is its text
+/// then.
 pub(crate) fn check_each_fault(
     rt: &(impl Abort + AllocGlobal),
     case: &Case,

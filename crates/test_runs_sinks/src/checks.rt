@@ -1,4 +1,4 @@
-//! How a run is judged.
+//! The comparisons of a run with its text and exit.
 
 use super::running::{run, run_with};
 use pm_base::Exit;
@@ -27,14 +27,14 @@ pub(crate) fn check(
     Ok(())
 }
 
-/// Each node of the chip stands at 0.
+/// Fails the test unless each node of the chip is at 0.
 fn check_still(rt: &impl Abort, device: &ModelDevice) {
     for number in 1..70 {
         assert_eq!(rt; device.value(node(number)), 0, "{number}");
     }
 }
 
-/// A run in which no device is commanded, whatever it writes.
+/// A run in which no device gets a command, whatever its text.
 pub(crate) fn check_uncommanded(
     rt: &(impl Abort + AllocGlobal),
     asked: &Asked,

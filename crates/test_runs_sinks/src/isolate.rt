@@ -5,7 +5,7 @@ use pm_base::Exit;
 use std::test::Fail;
 use test_fixtures::{ALONE, LABORATORY, OBJECT, joined};
 
-/// What master 7 reaches in the object of two masters.
+/// The reach of master 7 over the object of two masters.
 const SHARED: &str = "master 7 self 7
 slave 11 use 7
 power 6 above 7
@@ -55,7 +55,7 @@ static EXITS: [Case; 22] = [
         "fault usage\n",
         Exit::Usage,
     ),
-    // an object without a reading, whatever the master and the script
+    // an unreadable object, whatever the master and the script
     (
         SEVEN,
         &[2, 1],
@@ -74,7 +74,7 @@ static EXITS: [Case; 22] = [
         "fault object 3 2\n",
         Exit::BadObject,
     ),
-    // no master of the object, a number past the greatest that would be one, and no number, whatever the script
+    // no master of the object, too great a number, and no number, whatever the script
     (
         "isolate obj script 8",
         LABORATORY,
@@ -111,7 +111,7 @@ static EXITS: [Case; 22] = [
         "fault node\n",
         Exit::BadText,
     ),
-    // a line without a meaning, at first and after others
+    // a line that can't be read, at first and after others
     (
         SEVEN,
         OBJECT,
@@ -130,7 +130,7 @@ static EXITS: [Case; 22] = [
         "fault line 3 2\n",
         Exit::BadLine,
     ),
-    // inputs that aren't there or fail before the script is begun
+    // inputs that aren't there, or fail before the script is opened
     (
         "isolate no script x",
         OBJECT,
@@ -197,7 +197,7 @@ static EXITS: [Case; 22] = [
         "fault line 1 2\n",
         Exit::BadLine,
     ),
-    // the run of a master of its own, and nothing that differs
+    // a run in which nothing differs
     (
         SEVEN,
         ALONE,

@@ -1,4 +1,5 @@
-//! Tests of whole runs over sinks, of each length and such that fail or stall: replays, reach, two worlds, made scripts.
+//! Tests of whole runs over sinks of each length, and over sinks that fail or stall: replays, reaches, comparisons,
+//! and generated scripts.
 #![tactic(auto)]
 
 #[cfg(test)]

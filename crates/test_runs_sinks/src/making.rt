@@ -1,4 +1,4 @@
-//! Runs of scripts that are made.
+//! Runs of generated scripts.
 
 use super::cases::{Case, asked_of, check_cases};
 use super::running::run;
@@ -12,13 +12,13 @@ use test_fixtures::OBJECT;
 /// The summary of a script of one line.
 const ONE: &str = "lines 3\nset 16\nrun 2\nreply 2\ndrop 0\ncall 0\n";
 
-/// That of a script of 13 lines.
+/// The summary of a script of 13 lines.
 const THIRTEEN: &str = "lines 15\nset 19\nrun 2\nreply 12\ndrop 0\ncall 0\n";
 
 static EXITS: [Case; 8] = [
     ("make 1", OBJECT, "", &[], ONE, "", Exit::Done),
     ("make 0xd", OBJECT, "", &[], THIRTEEN, "", Exit::Done),
-    // no number of lines, and one line more than the most
+    // no number of lines, and one line too many
     (
         "make 0",
         OBJECT,
@@ -73,17 +73,17 @@ fn a_sink_of_each_length_under_each_exit(rt: HostRuntime) -> Result<(), Fail> {
     check_cases(&rt, &EXITS)
 }
 
-/// A script of many lines.
+/// A script of 300 lines.
 const LONGER: Case = ("make 300", OBJECT, "", &[], "", "", Exit::Done);
 
-/// What a run of many lines writes, and its exit.
+/// The text of a run of many lines, and its exit.
 fn longer(alloc: Global) -> Result<(MemSink, Exit), Fail> {
     let mut out = MemSink::new(alloc, None)?;
     let exit = run(alloc, &asked_of(&LONGER), &mut out)?;
     Ok((out, exit))
 }
 
-/// A run of many lines is Done and begins with their number, and a second one writes the same.
+/// A run of many lines ends with Done, its summary begins with their number, and a second run writes the same.
 fn check_both(rt: &impl Abort, exit: Exit, first: &[u8], second: &[u8]) {
     let begins = first.starts_with(b"lines 302\nset ");
     assert_eq!(rt; (exit, begins, first), (Exit::Done, true, second));

@@ -1,4 +1,4 @@
-//! Runs that write what a master can reach.
+//! Runs that write the reach of a master.
 
 use super::cases::{Case, asked_of, check_cases, check_cases_uncommanded, check_each_fault};
 use super::checks::check;
@@ -6,7 +6,7 @@ use pm_base::Exit;
 use std::test::Fail;
 use test_fixtures::{Asked, LABORATORY, OBJECT};
 
-/// What master 7 reaches in the object of two masters.
+/// The reach of master 7 over the object of two masters.
 const SHARED: &str = "master 7 self 7
 slave 11 use 7
 power 6 above 7
@@ -36,7 +36,7 @@ static EXITS: [Case; 12] = [
         "fault usage\n",
         Exit::Usage,
     ),
-    // an object without a reading, whatever the master
+    // an unreadable object, whatever the master
     (
         SEVEN,
         &[2, 1],
@@ -55,7 +55,7 @@ static EXITS: [Case; 12] = [
         "fault object 3 2\n",
         Exit::BadObject,
     ),
-    // no master of the object, a number past the greatest that would be one, and no number
+    // no master of the object, too great a number, and no number
     (
         "reach obj 8",
         LABORATORY,

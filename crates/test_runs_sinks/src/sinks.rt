@@ -1,4 +1,4 @@
-//! Runs over sinks that fail, stall or take little at a time.
+//! Runs over sinks that fail, stall, or take few bytes at a time.
 
 ghost use Rattle.std.specs.Prelude.{[]};
 
@@ -48,7 +48,7 @@ end slave 11 1 1
 end power 62 1 1
 ";
 
-/// What is written of a script of which the first line is dropped.
+/// The text of a script whose first line is dropped.
 const DROPPED: &str = "0 set 62 0 1\n0 set 6 0 1\n0 set 7 0 1\n0 run 7 0\n1 drop 8\n";
 
 static EXITS: [Case; 16] = [
@@ -64,7 +64,7 @@ static EXITS: [Case; 16] = [
         "fault usage\n",
         Exit::Usage,
     ),
-    // objects without a reading
+    // unreadable objects
     (
         REPLAY,
         &[2, 1],
@@ -83,7 +83,7 @@ static EXITS: [Case; 16] = [
         "fault object 3 2\n",
         Exit::BadObject,
     ),
-    // a text without a reading
+    // an unreadable text
     (
         "build script",
         &[],
@@ -93,7 +93,7 @@ static EXITS: [Case; 16] = [
         "fault text 2 1\n",
         Exit::BadText,
     ),
-    // a line without a meaning, at first and after a step
+    // a line that can't be read, at first and after a step
     (
         REPLAY,
         ALONE,
@@ -205,7 +205,7 @@ fn a_sink_of_each_length_under_an_object(rt: HostRuntime) -> Result<(), Fail> {
     check_each_length(&rt, &asked, &body, "", Exit::Done)
 }
 
-/// What is written of a line in which a serial port is requested, and the closing table.
+/// The text of a line in which a serial port is requested, and the closing table.
 const REQUESTED: &str = "2 set 33 0 1
 2 reply 1 0 0 0 0
 end power 1 1 1
@@ -223,18 +223,19 @@ fn a_sink_of_each_length_under_several_lines(rt: HostRuntime) -> Result<(), Fail
     check_each_length(&rt, &asked, &text, "", Exit::Done)
 }
 
-/// How a sink takes pieces.
+/// The ways in which a sink takes pieces.
 #[derive(Clone, Copy)]
 enum Way {
-    /// One byte of each.
+    /// It takes one byte of each piece.
     Trickles,
     /// Nothing.
     IsFull,
-    /// It fails one write, the one after so many, and takes all of every other piece.
+    /// It fails one write, after so many, and takes every other piece whole.
     FailsOnce(u32),
 }
 
-/// A sink that takes pieces in some way. A trickle keeps its bytes, and what takes whole pieces counts theirs.
+/// A sink that takes pieces in one of these ways. One that takes single bytes keeps them; one that takes whole pieces
+/// counts their bytes.
 #[derive(Drop)]
 struct OddSink {
     way: Way,
@@ -275,7 +276,7 @@ impl Sink for OddSink {
     }
 }
 
-/// Runs a script over a sink that takes pieces in a way: the sink, and the exit.
+/// Runs a script over a sink of one of these ways. Returns the sink and the exit.
 fn run_odd(alloc: Global, way: Way) -> Result<(OddSink, Exit), Fail> {
     let mut sink = OddSink {
         way,
@@ -310,7 +311,8 @@ fn a_sink_that_takes_nothing(rt: HostRuntime) -> Result<(), Fail> {
     Ok(())
 }
 
-/// How many bytes of `TEXT` are taken before each write: the lines of a step are one, and each closing line is one.
+/// The number of bytes of `TEXT` that are taken before each write: the lines of a step are one write, and so is each
+/// closing line.
 static BEFORE: [usize; 12] = [0, 86, 130, 164, 195, 204, 220, 235, 251, 266, 283, 300];
 
 fn check_taken(rt: &impl Abort, writes: u32, exit: Exit, found: usize, taken: usize) {

@@ -1,9 +1,9 @@
-//! What the standard input asks for.
+//! The request on the standard input.
 
 use std::alloc::Global;
 use std::io;
 
-/// The words of a run, and how many allocations are made before it and after it.
+/// The words of a run, and the numbers of allocations before it and after it.
 #[derive(Drop)]
 pub(crate) struct Asked {
     pub(crate) words: Vec<String>,
@@ -11,7 +11,7 @@ pub(crate) struct Asked {
     pub(crate) after: u32,
 }
 
-/// Reads the three lines of the standard input. A line that isn't there has no word, and a number that is none is 0.
+/// Reads the three lines of the standard input. A missing line has no word; a word that is no number counts as 0.
 pub(crate) fn read_asked<R: Input + AllocGlobal>(rt: &R) -> io::Result<Asked> {
     let alloc = rt.alloc();
     let mut lines = Vec::new(alloc);

@@ -1,9 +1,10 @@
-//! Runs words over inputs, a sink and a device in memory, and says what became of the run. Under a toolchain that refuses
-//! one allocation of the process, `cases/refuse-memory` sees so what each refusal within a run comes to.
+//! Makes a run of words over inputs, a sink and a device in memory, and writes its outcome. `cases/refuse-memory`
+//! uses it under a toolchain that refuses one allocation of the process: so it sees the outcome of each refusal
+//! within a run.
 //!
-//! Its standard input has three lines: the words, how many allocations are made before the run, and how many after it.
-//! The first ones choose which allocation of the run is refused, and the others find out whether one was refused so far.
-//! Its output is one line:
+//! The standard input has three lines: the words, the number of allocations before the run, and the number after it.
+//! The first number chooses which allocation of the run is refused; the allocations after the run find out whether
+//! one was refused before. The output is one line:
 //!
 //! | Line | Meaning |
 //! |---|---|
@@ -11,7 +12,7 @@
 //! | `memory` | the run ended with Memory, and wrote nothing but `fault memory` |
 //! | `whole` | the run ended with Done, and wrote what the same run writes when it is made again |
 //! | `after N` | after N of the allocations after the run the next one was refused |
-//! | `wrong EXIT` | the run came to something else |
+//! | `wrong EXIT` | the run had another outcome |
 //!
 //! The exit status is 1 if there was no memory for what a run needs.
 #![tactic(auto)]
@@ -26,10 +27,10 @@ use std::alloc::Global;
 use std::io;
 use std::process::ExitCode;
 
-/// What is written where memory is wanted.
+/// The text of a run for want of memory.
 const REFUSAL: &[u8] = b"fault memory\n";
 
-/// What became of a run, or of the allocations before and after it: how many were made.
+/// The outcome of a run, or of the allocations before or after it: how many were made.
 #[derive(Clone, Copy, Debug, PartialEq, Eq)]
 enum Verdict {
     Before(u32),
@@ -46,7 +47,7 @@ fn main(rt: HostRuntime) -> ExitCode {
     }
 }
 
-/// Runs what the standard input asks for, and says what became of it.
+/// Does what the standard input asks for, and returns the outcome.
 fn run<R: Input + Print + AllocGlobal>(rt: &R) -> io::Result<()> {
     let asked = read_asked(rt)?;
     match judge(rt.alloc(), &asked) {
@@ -77,7 +78,7 @@ fn judge(alloc: Global, asked: &Asked) -> Result<Verdict, NoMemory> {
     Ok(verdict_of((exit, first.text()), (whole, again.text())))
 }
 
-/// Makes so many allocations, or stops at one that is refused. Answers how many it made.
+/// Makes so many allocations, or stops at a refused one. Returns the number of those that were made.
 fn allocations(alloc: Global, count: u32) -> u32 {
     for made in 0..count {
         if Box::new(alloc, 0u8).is_err() {
@@ -87,7 +88,7 @@ fn allocations(alloc: Global, count: u32) -> u32 {
     count
 }
 
-/// What a run came to, by its exit and text, and those of the same run that is made again.
+/// The outcome of a run, by its exit and text, and those of the same run again.
 fn verdict_of(ran: (Exit, &[u8]), again: (Exit, &[u8])) -> Verdict {
     match ran {
         (Exit::Memory, text) if text == REFUSAL => Verdict::Memory,

@@ -1,4 +1,4 @@
-//! What a run needs, in memory.
+//! The parts of a run, in memory.
 
 ghost use Rattle.std.specs.Prelude.{◌≡◌, IfOk};
 ghost use Rattle.pm_base.specs.declared.names.Unit.{Unit};
@@ -48,17 +48,17 @@ irq 46
 gic 2
 ";
 
-/// How many bytes the text of a run has at most.
+/// The greatest length of a run's text, in bytes.
 const ROOM: u32 = 65_536;
 
-/// What runs share.
+/// The parts that runs share.
 #[derive(Drop)]
 pub(crate) struct Shared {
     inputs: MemInputs,
     modules: ModulesOf<Echo>,
 }
 
-/// What a run changes: a sink whose writes take no memory, a device, and a task.
+/// The parts that a run changes: a sink whose writes take no memory, a device, and a task.
 #[derive(Drop)]
 pub(crate) struct Stage {
     out: MemSink,
@@ -67,13 +67,13 @@ pub(crate) struct Stage {
 }
 
 impl Stage {
-    /// What was written.
+    /// The text that was written.
     pub(crate) fn text(&self) -> &[u8] {
         self.out.bytes()
     }
 }
 
-/// The files that words can name, `obj`, `text`, `script`, and `small` and `topo` of another chip; and a module.
+/// The files that words can name (`obj`, `text`, `script`, and `small` and `topo` for another chip), and a module.
 pub(crate) fn new_shared(alloc: Global) -> Result<Shared, NoMemory> {
     let mut inputs = MemInputs::new(alloc, &[])?;
     put_words(alloc, &mut inputs, "obj", LABORATORY)?;
@@ -86,7 +86,7 @@ pub(crate) fn new_shared(alloc: Global) -> Result<Shared, NoMemory> {
     Ok(Shared { inputs, modules })
 }
 
-/// Puts the words of an object in under a name.
+/// Adds the words of an object under a name.
 fn put_words(
     alloc: Global,
     inputs: &mut MemInputs,
@@ -97,7 +97,7 @@ fn put_words(
     put(inputs, name, bytes.as_slice())
 }
 
-/// An empty sink, a device that stands at 0, and a stopped task.
+/// An empty sink, a device with all units at 0, and a stopped task.
 pub(crate) fn new_stage(alloc: Global) -> Result<Stage, NoMemory>
     ensures { IfOk result (λ stage. (unit : Unit) → (moment_of stage.device.value).value unit ≡ 0) }
 {
@@ -110,7 +110,7 @@ pub(crate) fn new_stage(alloc: Global) -> Result<Stage, NoMemory>
     })
 }
 
-/// Runs words.
+/// Makes a run of words.
 pub(crate) fn run_words(
     alloc: Global,
     words: &[String],

@@ -10,20 +10,20 @@ use test_books::{
     wrong_answer, wrong_notice, wrong_row, wrong_value,
 };
 
-/// The masters 1 and 7, which may use slaves 11 and 33. Only master 1 may set the configuration.
+/// Masters 1 and 7, which may use slaves 11 and 33. Only master 1 may set the configuration.
 static LOADED: [u32; 26] = [
     2, 3, 1, 0x101, 2, 1, 0x1, 100, 0x100, 0x100, 7, 0x100, 40, 0x1, 0x1, 0x102, 2, 11, 1, 0x101,
     33, 1, 0x101, 0x107, 1, 0,
 ];
 
-/// Masters 1 and 7, which may use slaves 19 and 33, of which the first can't be shared. Both have both in use. Nobody may
-/// set the configuration.
+/// Masters 1 and 7, which may use slaves 19 and 33; slave 19 can't be shared. Both masters have both in use at load.
+/// Nobody may set the configuration.
 static OTHER: [u32; 35] = [
     2, 3, 1, 0x101, 2, 1, 0x1, 100, 0, 0, 7, 0x100, 100, 0, 0, 0x102, 2, 19, 0, 0x101, 33, 1,
     0x101, 0x103, 1, 0x101, 2, 19, 2, 1, 1, 33, 2, 1, 0,
 ];
 
-/// Other masters.
+/// An object with other masters.
 static FOREIGN: [u32; 10] = [2, 1, 1, 0x101, 1, 1, 0x2, 100, 0, 0];
 
 /// No reply words.
@@ -42,12 +42,12 @@ fn attached(alloc: Global) -> Result<Box<Desk>, Fail> {
 
 /// SET_CONFIGURATION: the address.
 static ADDRESSES: [Case; 10] = [
-    // nothing is attached, no object, other masters: also without the permission
+    // nothing is attached, no object, other masters; also without the permission
     (1, 2, [8192, 0, 0, 0], Want::Reply(15, NONE)),
     (1, 2, [8, 0, 0, 0], Want::Reply(15, [4, 0, 0])),
     (1, 2, [12, 0, 0, 0], Want::Reply(15, NONE)),
     (7, 2, [8, 0, 0, 0], Want::Reply(15, [4, 0, 0])),
-    // the permission is that of the object in force
+    // the object in force gives the permission
     (7, 2, [4096, 0, 0, 0], Want::Reply(2002, NONE)),
     (1, 2, [16, 1, 2, 3], Want::Reply(0, NONE)),
     (1, 13, [11, 1, 0, 2], Want::Reply(0, NONE)),
@@ -63,7 +63,7 @@ fn an_object_is_put_in_force_by_its_address(rt: HostRuntime) -> Result<(), Fail>
     Ok(())
 }
 
-/// A row that the new object has in use, with its preset.
+/// A row in use by the new object, with its preset.
 const fn used(preset: u32) -> Row {
     Row {
         used: true,
@@ -115,13 +115,13 @@ fn a_master_that_sleeps_uses_nothing_anew(rt: HostRuntime) -> Result<(), Fail> {
         (7, 33, Some(unused(0))),
     ];
     all_right(&rt, wrong_row(&desk.book, &rows));
-    // nothing wakes it any more by the slave
+    // the slave doesn't wake it any more
     desk.take(&event_of(Trigger::Irq(33)));
     all_right(&rt, wrong_row(&desk.book, &rows));
     Ok(())
 }
 
-/// A notifier is gone once another object is in force, and nothing is told of the step itself.
+/// A notifier is removed when another object is put in force, and nothing is told of that step.
 static UNTOLD: [Notice; 5] = [
     (Trigger::Call(7, 5, [33, 1, 0, 1]), &[], &[]),
     (Trigger::Call(7, 5, [33, 2, 0, 1]), &[], &[]),
@@ -141,7 +141,7 @@ fn no_notifier_is_left(rt: HostRuntime) -> Result<(), Fail> {
     Ok(())
 }
 
-/// A restart of all goes to the load with the object in force.
+/// A restart of everything leads to the load with the object in force.
 static RESTARTS: [Case; 4] = [
     (1, 2, [16, 0, 0, 0], Want::Reply(0, NONE)),
     (1, 2, [4096, 0, 0, 0], Want::Reply(0, NONE)),

@@ -1,5 +1,5 @@
-//! Requests to suspend end: what the asking master is told, by how its request ends, by its own mode and by the
-//! acknowledge kind.
+//! The ends of requests to suspend: what the asking master is told, by the way in which the request ends, by the
+//! master's own mode, and by the acknowledge kind.
 
 use crate::asking::ASKING;
 use crate::rows::all_right;
@@ -8,8 +8,8 @@ use std::alloc::Global;
 use std::test::Fail;
 use test_books::{Desk, Trigger, event_of, have_called, have_replied, settled};
 
-/// How a request to master 7 ends: it sleeps, an interrupt wakes it before the sleep, it aborts its suspend, it
-/// aborts before it suspends, or its time is over.
+/// The ways in which a request to master 7 ends: it sleeps; an interrupt wakes it before the sleep; it aborts its
+/// suspend; it aborts before it suspends; its timeout is over.
 #[derive(Clone, Copy)]
 enum Way {
     Sleep,
@@ -32,7 +32,7 @@ static REFUSAL: [Trigger; 1] = [Trigger::Call(7, 9, [101, 7, 0, 0])];
 
 static TIME: [Trigger; 2] = [Trigger::Tick(39), Trigger::Tick(1)];
 
-/// What happens in this way, the end of the request last.
+/// The events of this way. The last one ends the request.
 fn steps_of(way: Way) -> &'static [Trigger] {
     match way {
         Way::Sleep => &SLEEP,
@@ -43,7 +43,7 @@ fn steps_of(way: Way) -> &'static [Trigger] {
     }
 }
 
-/// What master 1 does after it asked: it stays active, it suspends, or it sleeps.
+/// The mode of master 1 after it asked: it stays active, suspends, or sleeps.
 #[derive(Clone, Copy)]
 enum Asker {
     Active,
@@ -65,7 +65,8 @@ fn steps_by(asker: Asker) -> &'static [Trigger] {
     }
 }
 
-/// What master 1 is told: nothing, a late reply of a status, or a callback of a status and an operating point.
+/// The expected notice to master 1: none, a late reply with a status, or a callback with a status and an operating
+/// point.
 #[derive(Clone, Copy)]
 enum Told {
     Nothing,
@@ -73,7 +74,8 @@ enum Told {
     Callback(u32, u32),
 }
 
-/// How the request ends, what the asking master does meanwhile, the acknowledge kind, and what it is told.
+/// A row: the way in which the request ends, the mode of the asking master, the acknowledge kind, and the expected
+/// notice.
 type End = (Way, Asker, u32, Told);
 
 static ENDS: [End; 45] = [
@@ -130,7 +132,7 @@ static ENDS: [End; 45] = [
     (Way::Time, Asker::Asleep, 3, Told::Nothing),
 ];
 
-/// Whether just this was told in the last step.
+/// Whether the last step told exactly this.
 fn has_told(out: &Outbox, told: Told) -> bool {
     match told {
         Told::Nothing => have_replied(out, &[]) && have_called(out, &[]),
@@ -147,7 +149,7 @@ fn take_all(desk: &mut Desk, triggers: &[Trigger]) {
     }
 }
 
-/// Whether a request ends so: this is told, and once, since nothing is due later.
+/// Whether a request ends so: exactly this is told, and once, since nothing is due later.
 fn ends_so(alloc: Global, end: &End) -> Result<bool, Fail> {
     let (way, asker, ack, told) = *end;
     let mut desk = settled(alloc, &ASKING)?;

@@ -1,4 +1,5 @@
-//! Tests of steps in which a master acts on others: it asks them to suspend, is told of them, or changes the object.
+//! Tests of steps by which a master acts on others: it asks them to suspend, is told about them, or puts another
+//! object in force.
 #![tactic(auto)]
 
 #[cfg(test)]

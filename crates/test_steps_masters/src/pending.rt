@@ -1,4 +1,4 @@
-//! Requests to suspend that are pending: in which step each ends, and what is told then.
+//! Pending requests to suspend: the step in which each ends, and what is told then.
 
 use crate::asking::ASKING;
 use crate::rows::all_right;
@@ -9,7 +9,7 @@ use test_books::{Notice, Trigger, wrong_notice_over};
 static TIMES: [Notice; 20] = [
     (Trigger::Tick(u32::MAX), &[], &[]),
     (Trigger::Boot(8, 0), &[], &[]),
-    // 0 is due in the next tick, also where no time passes, and once
+    // a timeout of 0 is due in the next tick, even if no time passes, and only once
     (
         Trigger::Call(1, 6, [8, 2, 3, 4]),
         &[],
@@ -18,7 +18,7 @@ static TIMES: [Notice; 20] = [
     (Trigger::Boot(3, 0), &[], &[]),
     (Trigger::Tick(0), &[(1, 2006)], &[]),
     (Trigger::Tick(0), &[], &[]),
-    // the ticks of a request add up, from the request on
+    // the ticks of a request add up, beginning after the request
     (
         Trigger::Call(1, 6, [7, 2, 50, 1]),
         &[],
@@ -26,7 +26,7 @@ static TIMES: [Notice; 20] = [
     ),
     (Trigger::Tick(39), &[], &[]),
     (Trigger::Tick(0), &[], &[]),
-    // a later one has its own time, and what is refused or dropped makes none
+    // a later request has its own time; a refused or dropped one makes none
     (
         Trigger::Call(7, 6, [2, 3, 0, 0]),
         &[],
@@ -36,7 +36,7 @@ static TIMES: [Notice; 20] = [
     (Trigger::Call(6, 6, [7, 2, 0, 0]), &[], &[]),
     (Trigger::Tick(1), &[(1, 2006)], &[]),
     (Trigger::Tick(98), &[], &[]),
-    // a new request of a target that was asked before has its whole time
+    // a new request to a target that was asked before has its whole timeout
     (
         Trigger::Call(1, 6, [7, 2, 0, 0]),
         &[],
@@ -44,7 +44,7 @@ static TIMES: [Notice; 20] = [
     ),
     (Trigger::Tick(1), &[], &[(7, 31, [2, 2006, 1, 0])]),
     (Trigger::Tick(38), &[], &[]),
-    // more than what is left
+    // a tick longer than the rest
     (Trigger::Tick(u32::MAX), &[(1, 2006)], &[]),
     (
         Trigger::Call(1, 6, [7, 1, 0, 0]),
@@ -61,8 +61,8 @@ fn a_request_times_out_with_the_tick_that_reaches_its_timeout(rt: HostRuntime) -
     Ok(())
 }
 
-/// The masters 1 and 7, which may suspend each other. Master 7 has no timeout that is ever due, and master 1 one that is
-/// less by 1.
+/// Masters 1 and 7, which may suspend each other. The timeout of master 7 is never due; that of master 1 is less by
+/// 1.
 static NEVER: [u32; 15] = [
     2,
     1,
@@ -111,7 +111,7 @@ fn the_greatest_timeout_is_never_due(rt: HostRuntime) -> Result<(), Fail> {
 /// Requests that end in one step, by the order of the masters in the object: 1, 8, 7.
 static TOGETHER: [Notice; 14] = [
     (Trigger::Boot(8, 0), &[], &[]),
-    // late replies stand by their targets, and not by the masters that asked
+    // late replies come in the order of their targets, and not of the masters that asked
     (
         Trigger::Call(7, 6, [1, 2, 0, 0]),
         &[],
@@ -128,7 +128,7 @@ static TOGETHER: [Notice; 14] = [
         &[(8, 30, [201, 0, 0, 0])],
     ),
     (Trigger::Tick(100), &[(7, 2006), (1, 2006), (8, 2006)], &[]),
-    // callbacks stand by the masters that asked, and of one master by the targets
+    // callbacks come in the order of the masters that asked, and for one master in that of the targets
     (
         Trigger::Call(1, 6, [7, 3, 0, 0]),
         &[],
@@ -153,7 +153,7 @@ static TOGETHER: [Notice; 14] = [
             (7, 31, [4, 2006, 0, 0]),
         ],
     ),
-    // a master asks itself, and another one
+    // a master asks itself, and then another one
     (
         Trigger::Call(1, 6, [1, 3, 7, 8]),
         &[],
@@ -184,7 +184,7 @@ fn requests_that_end_together_stand_in_object_order(rt: HostRuntime) -> Result<(
     Ok(())
 }
 
-/// A request ends with the mode of its target, which is that of all of its processors.
+/// A request ends by the mode of its target, which follows from all of the target's processors.
 static MODES: [Notice; 24] = [
     // another processor goes on: the master doesn't sleep
     (Trigger::Boot(3, 0), &[], &[]),
@@ -195,7 +195,7 @@ static MODES: [Notice; 24] = [
     ),
     (Trigger::Call(1, 7, [2, 0, 0, 0]), &[], &[]),
     (Trigger::Wfi(2), &[], &[]),
-    // the master suspends with its last processor, and sleeps; node 1 is a power node, which goes down
+    // the master suspends with its last processor, and sleeps; node 1, a power node, goes down
     (Trigger::Call(1, 7, [3, 0, 0, 0]), &[], &[]),
     (Trigger::Wfi(3), &[], &[(7, 31, [1, 0, 0, 0])]),
     (Trigger::Gic(2), &[], &[]),
@@ -214,7 +214,7 @@ static MODES: [Notice; 24] = [
         &[(1, 30, [201, 0, 0, 100])],
     ),
     (Trigger::Call(1, 9, [100, 2, 0, 0]), &[(7, 2005)], &[]),
-    // the master that asked wakes the target before it sleeps: it gets a late reply beside the answer
+    // the master that asked wakes the target before it sleeps, and gets a late reply beside the answer
     (
         Trigger::Call(1, 6, [7, 2, 0, 0]),
         &[],
@@ -222,7 +222,7 @@ static MODES: [Notice; 24] = [
     ),
     (Trigger::Call(7, 7, [7, 0, 0, 0]), &[], &[]),
     (Trigger::Call(1, 10, [7, 0, 0, 2]), &[(1, 2005)], &[]),
-    // a target that goes on without having suspended ends nothing
+    // a target that goes on without having been suspending ends no request
     (
         Trigger::Call(1, 6, [7, 2, 0, 0]),
         &[],

@@ -1,4 +1,4 @@
-//! What is left of reset lines, notifiers and notes that wait where masters are forced down, restarted or shut down.
+//! Reset lines, notifiers and waiting notes after masters were forced down, restarted or shut down.
 
 use crate::rows::all_right;
 use pm_base::{LineId, Unit};
@@ -7,8 +7,8 @@ use test_books::{
     Case, Notice, Trigger, Want, event_of, settled, wrong_answer, wrong_notice, wrong_notice_over,
 };
 
-/// The masters 1 and 7, which may use slaves 11, 19 and 33; the first one gets slave 19 at load and when it starts. It may
-/// force processors 2 and 7, reset line 33, and shut down by subtype 1; master 7 may do so by subtype 2.
+/// Masters 1 and 7, which may use slaves 11, 19 and 33. The first one gets slave 19 at load and at its start. It may
+/// force processors 2 and 7, reset line 33, and shut down by subtype 1. Master 7 may shut down by subtype 2.
 static ANEW: [u32; 50] = [
     2, 6, 1, 0x101, 2, 1, 0x1, 100, 0x100, 0x100, 7, 0x100, 40, 0x1, 0x1, 0x102, 3, 11, 1, 0x101,
     19, 1, 0x101, 33, 1, 0x101, 0x103, 1, 0x1, 1, 19, 2, 1, 1, 0x104, 2, 2, 0x1, 7, 0x1, 0x105, 1,
@@ -18,8 +18,8 @@ static ANEW: [u32; 50] = [
 /// No reply words.
 const NONE: [u32; 3] = [0; 3];
 
-/// The last active processor of a caller is forced off while another one sleeps: the acknowledgement waits for it, and
-/// is told once when it wakes. One by a reply doesn't wait.
+/// A caller forces off its last active processor while another one sleeps: the acknowledgement waits, and is told
+/// once when the master wakes. An acknowledgement by a reply doesn't wait.
 static OWN_FORCE: [Notice; 14] = [
     (Trigger::Boot(3, 0), &[], &[]),
     (Trigger::Call(1, 7, [3, 0, 0, 0]), &[], &[]),
@@ -46,8 +46,8 @@ fn the_acknowledgement_of_a_force_waits_for_a_caller_that_sleeps(
     Ok(())
 }
 
-/// A master restarts: it forgets what it asked for, and the slave that it releases and takes again tells nothing, which it
-/// does when its master shuts itself down.
+/// A master restarts: its notifiers are removed, so that the slave that it releases and takes again tells nothing;
+/// that slave does tell something when its master shuts itself down.
 static OWN_RESTART: [Notice; 8] = [
     (Trigger::Call(7, 5, [19, 1, 0, 1]), &[], &[]),
     (Trigger::Call(7, 5, [19, 2, 0, 1]), &[], &[]),
@@ -74,7 +74,8 @@ fn a_master_that_restarts_forgets_what_it_asked_for(rt: HostRuntime) -> Result<(
     Ok(())
 }
 
-/// A master that is forced off forgets what it asked for and what waited for it, whether it was awake or asleep.
+/// The notifiers of a master that is forced off are removed, and so are its waiting notes, whether it was awake or
+/// asleep.
 static FORCED: [Notice; 12] = [
     (Trigger::Call(7, 5, [11, 1, 0, 1]), &[], &[]),
     (Trigger::Call(1, 8, [7, 2, 0, 0]), &[], &[]),
@@ -97,7 +98,8 @@ fn a_master_that_is_forced_off_forgets_what_waited(rt: HostRuntime) -> Result<()
     Ok(())
 }
 
-/// All is restarted while master 1 is asleep and something waits for it: it is awake then, and is told nothing of it.
+/// Everything is restarted while master 1 is asleep and a note waits for it. The master is awake then, and isn't told
+/// the note.
 static RESTART: [Notice; 9] = [
     (Trigger::Call(1, 17, [33, 1, 0, 0]), &[], &[]),
     (Trigger::Call(1, 5, [11, 1, 0, 1]), &[], &[]),
@@ -111,7 +113,7 @@ static RESTART: [Notice; 9] = [
         &[(7, 32, [11, 1, 2, 0])],
     ),
     (Trigger::Call(7, 12, [1, 2, 0, 0]), &[], &[]),
-    // and what it asked for is forgotten too
+    // and its notifiers are removed too
     (Trigger::Call(1, 21, [0; 4]), &[], &[]),
 ];
 
@@ -130,7 +132,8 @@ fn a_restart_of_all_releases_the_lines_and_drops_the_notes(rt: HostRuntime) -> R
     Ok(())
 }
 
-/// All is shut down: the slave that its last user loses tells nobody, since all masters are off, and nothing is told from then on.
+/// Everything is shut down. The slave that loses its last user tells nobody, since all masters are off; and nothing
+/// is told from then on.
 static HALT: [Notice; 8] = [
     (Trigger::Call(1, 17, [33, 1, 0, 0]), &[], &[]),
     (Trigger::Call(7, 5, [19, 2, 0, 1]), &[], &[]),
@@ -154,7 +157,7 @@ fn a_halted_book_keeps_its_lines(rt: HostRuntime) -> Result<(), Fail> {
     Ok(())
 }
 
-/// Nobody is told of a reset line, also where the slave with its number is watched.
+/// Nobody is told of a reset line, even if there is a notifier for the slave with its number.
 static LINES: [Notice; 6] = [
     (Trigger::Call(7, 5, [33, 1, 0, 1]), &[], &[]),
     (Trigger::Call(7, 5, [33, 2, 0, 1]), &[], &[]),

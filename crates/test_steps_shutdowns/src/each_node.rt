@@ -1,4 +1,4 @@
-//! Each node of the chip is forced down while all processors run and each master uses all that it may.
+//! Each node of the chip is forced down while all processors run and each master uses all its slaves.
 
 use crate::rows::all_right;
 use pm_base::{Mode, NodeId};
@@ -7,8 +7,8 @@ use std::alloc::Global;
 use std::test::Fail;
 use test_books::{Case, Desk, Trigger, Want, event_of, have_moved, settled, wrong_answer};
 
-/// The masters 1, 7 and 8, each of which may force any node. Slaves of each class stand below each power node: 11, 33, 46, 49
-/// and 53 below LPD, 15 and 17 in the RPU's domain, 19, 20, 28 and 55 below FPD, and 63 and 69 below PLD.
+/// Masters 1, 7 and 8, each of which may force any node. There are slaves of each class below each power node: 11,
+/// 33, 46, 49 and 53 below LPD, 15 and 17 in the RPU's domain, 19, 20, 28 and 55 below FPD, and 63 and 69 below PLD.
 static GRID: [u32; 85] = [
     2, 3, 1, 0x101, 3, 1, 0x1, 100, 0, 0, 7, 0x100, 100, 0, 0, 8, 0x200, 100, 0, 0, 0x102, 13, 11,
     1, 0x301, 15, 1, 0x300, 17, 0, 0x200, 19, 1, 0x101, 20, 0, 0x1, 28, 1, 0x301, 33, 0, 0x100, 46,
@@ -50,8 +50,8 @@ static USES: [(u32, u32); 25] = [
     (8, 69),
 ];
 
-/// A node that can be forced: the processors that go off, the masters that go off with them, the slaves below the node, whose
-/// rows are cleared, and the nodes that move.
+/// A row: a node that can be forced; the processors that go off; the masters that go off with them; the slaves below
+/// the node, whose rows are cleared; and the nodes that move.
 type Fall = (
     u32,
     &'static [u32],
@@ -60,8 +60,8 @@ type Fall = (
     &'static [u32],
 );
 
-/// A slave that another master still uses stands as it did, and so does a domain in which something still needs power. LPD is
-/// held, and slave 49 needs no state but its first one.
+/// The forces. A slave that another master still uses keeps its state, and a domain in which something still needs
+/// power stays up. LPD is held, and slave 49 needs only its first state.
 static FALLS: [Fall; 11] = [
     (1, &[2, 3, 4, 5], &[1], &[], &[1, 2, 3, 4, 5, 20]),
     (2, &[2], &[], &[], &[2]),
@@ -94,10 +94,10 @@ static FALLS: [Fall; 11] = [
     ),
 ];
 
-/// What no force has changed.
+/// The state that no force has changed.
 const UNCHANGED: Fall = (0, &[], &[], &[], &[]);
 
-/// The book while all processors run, and each master uses all that it may.
+/// The book while all processors run and each master uses all its slaves.
 fn busy(alloc: Global) -> Result<Box<Desk>, Fail> {
     let mut desk = settled(alloc, &GRID)?;
     for proc in &PROCS {
@@ -122,7 +122,7 @@ fn is_off(book: &Book, proc: u32) -> bool {
     matches!(book.mode(NodeId(proc)), Mode::Off)
 }
 
-/// Whether exactly the processors that fall are off.
+/// Whether exactly the processors of the row are off.
 fn procs_stand(book: &Book, fall: &Fall) -> bool {
     let (_, procs, _, _, _) = *fall;
     for proc in &PROCS {
@@ -140,7 +140,7 @@ fn is_used(book: &Book, master: u32, slave: u32) -> bool {
     }
 }
 
-/// Whether each master that isn't off uses what it did, but for the slaves below the node.
+/// Whether each master that isn't off uses the same slaves as before, except those below the node.
 fn rows_stand(book: &Book, fall: &Fall) -> bool {
     let (_, _, masters, slaves, _) = *fall;
     for (master, slave) in &USES {
@@ -152,7 +152,7 @@ fn rows_stand(book: &Book, fall: &Fall) -> bool {
     true
 }
 
-/// A force by a master, and what stands after it.
+/// Whether a force by a master has the effects of the row.
 fn is_wrong(desk: &mut Desk, caller: u32, status: u32, fall: &Fall) -> bool {
     let (node, _, _, _, moved) = *fall;
     let case: Case = (caller, 8, [node, 2, 0, 0], Want::Reply(status, [0; 3]));
@@ -189,7 +189,7 @@ fn can_be_forced(node: u32) -> bool {
     false
 }
 
-/// The first of all other numbers whose force isn't refused, or changes something.
+/// The first of all other numbers whose force isn't refused, or changes anything.
 fn wrong_refusal(desk: &mut Desk, caller: u32) -> Option<usize> {
     for node in 0..71u32 {
         let (_, procs, masters, slaves, moved) = UNCHANGED;

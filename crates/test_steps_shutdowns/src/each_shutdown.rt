@@ -1,5 +1,5 @@
-//! Each type and subtype of a shutdown, with the permission and without, while requests are pending, a callback waits and a
-//! reset line is asserted.
+//! Each type and subtype of a shutdown, with the permission and without it, while requests are pending, a callback
+//! waits, and a reset line is asserted.
 
 use crate::rows::all_right;
 use pm_base::{LineId, Unit};
@@ -10,15 +10,15 @@ use test_books::{
     wrong_answer, wrong_notice, wrong_value,
 };
 
-/// The masters 1, 7 and 8, which may use slaves 11 and 46. The first may suspend the others and reset line 33, and 7 may suspend
-/// the first. The two words that are left name the masters that may shut down by subtype 1, and by subtype 2.
+/// Masters 1, 7 and 8, which may use slaves 11 and 46. The first may suspend the others and reset line 33, and 7 may
+/// suspend the first. The two words that are left have the masters that may shut down by subtype 1, and by subtype 2.
 static MASTERS: [u32; 34] = [
     2, 4, 1, 0x101, 3, 1, 0x1, 100, 0x300, 0, 7, 0x100, 40, 0x1, 0, 8, 0x200, 50, 0, 0, 0x102, 2,
     11, 1, 0x301, 46, 1, 0x301, 0x105, 1, 33, 0x1, 0x106, 2,
 ];
 
-/// What comes before the shutdown. Master 8 sleeps; its slave 46 wakes it, and the change of slave 11 waits for it. Line 33 is
-/// asserted. Master 1 waits for a late reply when 7 is suspended, and 7 for an acknowledgement when 1 is.
+/// The events before the shutdown. Master 8 sleeps; its slave 46 wakes it, and a change of slave 11 waits for it.
+/// Line 33 is asserted. Master 1 waits for a late reply when 7 is suspended, and 7 for an acknowledgement when 1 is.
 static BEFORE: [Trigger; 12] = [
     Trigger::Boot(3, 0),
     Trigger::Boot(8, 0),
@@ -34,8 +34,8 @@ static BEFORE: [Trigger; 12] = [
     Trigger::Call(7, 6, [1, 3, 0, 0]),
 ];
 
-/// What the shutdown comes to: the status, the late replies and the callbacks, the values of nodes after it, and that of the
-/// line; and what is told later on.
+/// The effects of the shutdown: the status, the late replies, the callbacks, the values of nodes and of the line
+/// after it, and the notices later on.
 type Expected = (
     u32,
     &'static [Reply],
@@ -45,7 +45,7 @@ type Expected = (
     &'static [Notice],
 );
 
-/// Nothing happens: later on both requests time out, and master 8 hears of slave 11 when it wakes.
+/// The shutdown has no effect: later both requests time out, and master 8 is told of slave 11 when it wakes.
 const UNCHANGED: Expected = (0, &[], &[], STANDS, 1, GOES_ON);
 
 const REFUSED: Expected = (2002, &[], &[], STANDS, 1, GOES_ON);
@@ -77,7 +77,7 @@ const GOES_ON: &[Notice] = &[
     (Trigger::Tick(60), &[], &[(7, 31, [1, 2006, 1, 0])]),
 ];
 
-/// Master 1 is off: the request on it is done, its own one is still pending, and it hears of nothing any more.
+/// Master 1 is off: the request to it has ended, its own one is still pending, and it is told nothing any more.
 const OFF: Expected = (
     0,
     &[],
@@ -135,7 +135,7 @@ const WITHOUT_THE_FIRST: &[Notice] = &[
     ),
 ];
 
-/// All are off: both requests are done, of which a late reply tells alone, and nothing happens any more.
+/// All are off: both requests have ended, only a late reply tells it, and nothing happens any more.
 const HALTED: Expected = (
     0,
     &[(1, 0)],
@@ -162,7 +162,7 @@ const HALTED: Expected = (
     ],
 );
 
-/// All is as at load: the slaves of the first master are held, the line is released, and nobody hears of anything.
+/// All is as at load: the slaves of the first master are held, the line is released, and nobody is told anything.
 const ANEW: Expected = (
     0,
     &[(1, 0)],
@@ -190,16 +190,17 @@ const ANEW: Expected = (
     ],
 );
 
-/// A shutdown by master 1: the masters that may shut down by subtypes 1 and 2, the type, the subtype, and what it comes to.
+/// A row: the masters that may shut down by subtypes 1 and 2, the type and the subtype of a shutdown by master 1, and
+/// its effects.
 type Shutdown = (u32, u32, u32, u32, Expected);
 
 static SHUTDOWNS: [Shutdown; 20] = [
-    // the caller alone needs no permission
+    // the caller's own shutdown needs no permission
     (0x1, 0x1, 0, 0, OFF),
     (0x100, 0x100, 0, 0, OFF),
     (0x1, 0x1, 1, 0, AGAIN),
     (0x100, 0x100, 1, 0, AGAIN),
-    // all need it, by each of the two subtypes alone
+    // a shutdown of everything needs it, for each of the two subtypes
     (0x1, 0x1, 0, 1, HALTED),
     (0x1, 0x100, 0, 1, HALTED),
     (0x100, 0x1, 0, 1, REFUSED),
@@ -210,7 +211,7 @@ static SHUTDOWNS: [Shutdown; 20] = [
     (0x100, 0x1, 1, 1, REFUSED),
     (0x100, 0x1, 1, 2, ANEW),
     (0x1, 0x100, 1, 2, REFUSED),
-    // a scope needs none
+    // a scope needs no permission
     (0x1, 0x1, 2, 0, UNCHANGED),
     (0x100, 0x100, 2, 0, UNCHANGED),
     (0x1, 0x1, 2, 1, UNCHANGED),

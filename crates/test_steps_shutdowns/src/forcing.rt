@@ -9,9 +9,9 @@ use test_books::{
     wrong_turn, wrong_turn_over,
 };
 
-/// The masters 1, 7 and 8, which may use slaves 11, 15, 19 and 46. The first may suspend and wake the others. Power nodes
-/// 10 (of 1 and 7), 1 and 62 (of 7), 6 and 9 (of 1), and processors 2 (of 1 and 7), 3 and 7 (of 1) may be forced;
-/// the first may shut down by subtype 1, and 7 by subtype 2.
+/// Masters 1, 7 and 8, which may use slaves 11, 15, 19 and 46. The first may suspend and wake the others. Power nodes
+/// 10 (by 1 and 7), 1 and 62 (by 7), 6 and 9 (by 1), and processors 2 (by 1 and 7), 3 and 7 (by 1) may be forced. The
+/// first may shut down by subtype 1, and 7 by subtype 2.
 pub(crate) static FORCING: [u32; 58] = [
     2, 4, 1, 0x101, 3, 1, 0x1, 100, 0x300, 0x300, 7, 0x100, 40, 0x1, 0, 8, 0x200, 0, 0, 0, 0x102,
     4, 11, 1, 0x301, 15, 1, 0x301, 19, 1, 0x301, 46, 1, 0x301, 0x104, 8, 10, 0x101, 1, 0x100, 6,
@@ -31,22 +31,23 @@ static FORCES: [Case; 20] = [
     (1, 8, [11, 2, 0, 0], Want::Reply(2003, NONE)),
     (1, 8, [99, 2, 0, 0], Want::Reply(2003, NONE)),
     (7, 8, [0, 2, 0, 0], Want::Reply(2003, NONE)),
-    // the permission: of another master, also for an own processor and for the node that has it, and of nobody
+    // the permission: that of another master, even for a processor of one's own and for its node; and that of
+    // nobody
     (1, 8, [1, 2, 0, 0], Want::Reply(2002, NONE)),
     (1, 8, [62, 2, 0, 0], Want::Reply(2002, NONE)),
     (1, 8, [4, 2, 0, 0], Want::Reply(2002, NONE)),
     (7, 8, [6, 2, 0, 0], Want::Reply(2002, NONE)),
     (7, 8, [7, 2, 0, 0], Want::Reply(2002, NONE)),
     (1, 8, [8, 2, 0, 0], Want::Reply(2002, NONE)),
-    // refused under the other acknowledge kinds
+    // refusals under the other acknowledge kinds
     (1, 8, [62, 3, 0, 0], Want::Ack(62, 2002, 1)),
     (1, 8, [11, 3, 0, 0], Want::Ack(11, 2003, 0)),
     (1, 8, [62, 1, 0, 0], Want::Silent),
-    // a power node without anything that runs, and a processor that is off
+    // a power node below which nothing runs, and a processor that is off
     (1, 8, [9, 2, 0, 0], Want::Reply(0, NONE)),
     (1, 8, [3, 3, 0, 0], Want::Ack(3, 0, 0)),
     (1, 8, [3, 1, 0, 0], Want::Silent),
-    // the operating point after the step; the master whose processors went off isn't heard any more
+    // the operating point after the step; a master whose processors went off isn't heard any more
     (1, 8, [6, 3, 0, 0], Want::Ack(6, 0, 0)),
     (7, 8, [1, 2, 0, 0], Want::Drop),
 ];
@@ -58,30 +59,31 @@ fn the_first_check_of_a_force_decides(rt: HostRuntime) -> Result<(), Fail> {
     Ok(())
 }
 
-/// Each power node is forced while several masters run and use what is below it.
+/// Each power node is forced while several masters run and use slaves below it.
 static POWERS: [Turn; 20] = [
     (Trigger::Boot(8, 0), &[(8, 0)], &[8]),
     (Trigger::Call(1, 13, [11, 1, 0, 2]), &[], &[11]),
     (Trigger::Call(1, 13, [15, 1, 0, 2]), &[], &[15]),
     (Trigger::Call(7, 13, [19, 1, 0, 2]), &[], &[19]),
     (Trigger::Call(8, 13, [19, 1, 0, 2]), &[], &[]),
-    // the processors of master 1 fall with their domain, its rows with them, and the rows of others below the domain
+    // the processors of master 1 go off with their domain, and its rows are cleared; so are the rows of others
+    // below the domain
     (
         Trigger::Call(7, 8, [10, 2, 0, 0]),
         &[],
         &[1, 2, 10, 11, 15, 19],
     ),
     (Trigger::Boot(2, 64), &[(2, 64)], &[1, 2, 10]),
-    // what other masters use elsewhere keeps the domain above
+    // slaves in use elsewhere keep the domain above up
     (Trigger::Call(7, 13, [19, 1, 0, 2]), &[], &[19]),
     (Trigger::Call(7, 8, [1, 2, 0, 0]), &[], &[1, 2]),
     (Trigger::Boot(2, 0), &[(2, 0)], &[1, 2]),
-    // both masters below this one fall, and what only they used
+    // both masters below it go off, and slaves that only they used go down
     (Trigger::Call(1, 13, [11, 1, 0, 2]), &[], &[11]),
     (Trigger::Call(8, 13, [15, 1, 0, 2]), &[], &[15]),
     (Trigger::Call(1, 8, [6, 2, 0, 0]), &[], &[6, 7, 8, 15, 19]),
     (Trigger::Boot(7, 0), &[(7, 0)], &[6, 7]),
-    // a node that is held stays up, and its own caller falls
+    // a held node stays up, but its own caller goes off
     (Trigger::Call(7, 13, [46, 1, 0, 2]), &[], &[46]),
     (Trigger::Call(7, 8, [62, 2, 0, 0]), &[], &[6, 7, 11, 46]),
     (Trigger::Call(7, 8, [62, 2, 0, 0]), &[], &[]),
@@ -97,7 +99,7 @@ fn a_power_node_falls_with_all_below_it(rt: HostRuntime) -> Result<(), Fail> {
     Ok(())
 }
 
-/// A processor is forced: its master goes off with it, and with that its arming and its resume address.
+/// A processor is forced: its master goes off with it, and loses its arming and its resume address.
 static PROCESSORS: [Turn; 16] = [
     (Trigger::Call(7, 11, [7, 46, 1, 0]), &[], &[]),
     (Trigger::Call(1, 13, [15, 1, 0, 2]), &[], &[15]),
@@ -105,16 +107,16 @@ static PROCESSORS: [Turn; 16] = [
     (Trigger::Boot(7, 256), &[(7, 256)], &[7]),
     (Trigger::Call(7, 7, [7, 0, 0, 512]), &[], &[]),
     (Trigger::Wfi(7), &[], &[7]),
-    // the slave that was armed wakes it no more, and an interrupt of its own does
+    // the slave that was armed doesn't wake it any more, but an interrupt of its own does
     (Trigger::Irq(46), &[], &[]),
     (Trigger::Gic(7), &[(7, 512)], &[7]),
-    // one that sleeps is off from then on
+    // one that sleeps is off
     (Trigger::Call(7, 7, [7, 0, 0, 1024]), &[], &[]),
     (Trigger::Wfi(7), &[], &[7]),
     (Trigger::Call(1, 8, [7, 2, 0, 0]), &[], &[]),
     (Trigger::Gic(7), &[], &[]),
     (Trigger::Call(1, 10, [7, 0, 0, 2]), &[(7, 0)], &[7]),
-    // rows on slaves below other nodes stay, as do those of other masters
+    // rows on slaves below other nodes stay, and so do those of other masters
     (Trigger::Call(7, 13, [15, 1, 0, 2]), &[], &[]),
     (Trigger::Call(1, 8, [7, 2, 0, 0]), &[], &[7]),
     (Trigger::Call(1, 14, [15, 0, 0, 0]), &[], &[6, 15]),
@@ -127,7 +129,7 @@ fn a_processor_falls_alone(rt: HostRuntime) -> Result<(), Fail> {
     Ok(())
 }
 
-/// A request that is pending on a master which is forced off has done its work.
+/// A request that is pending on a master ends with success when the master is forced off.
 static REQUESTS: [Notice; 6] = [
     (
         Trigger::Call(1, 6, [7, 2, 50, 1]),

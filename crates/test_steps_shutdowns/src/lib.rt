@@ -1,4 +1,4 @@
-//! Tests of steps in which nodes are forced down, and masters or all of the system are shut down or restarted.
+//! Tests of steps in which nodes are forced down, and masters or the whole system are shut down or restarted.
 #![tactic(auto)]
 
 #[cfg(test)]

@@ -1,4 +1,4 @@
-//! Masters, or all of the system, are shut down and restarted.
+//! Masters, or the whole system, are shut down and restarted.
 
 use crate::forcing::FORCING;
 use crate::rows::all_right;
@@ -14,23 +14,23 @@ const NONE: [u32; 3] = [0; 3];
 
 /// SYSTEM_SHUTDOWN: the type and the subtype.
 static SHUTDOWNS: [Case; 23] = [
-    // the type and the subtype, also without the permission
+    // the type and the subtype, even without the permission
     (1, 12, [3, 0, 0, 0], Want::Reply(15, NONE)),
     (1, 12, [u32::MAX, 1, 0, 0], Want::Reply(15, NONE)),
     (1, 12, [0, 3, 0, 0], Want::Reply(15, NONE)),
     (7, 12, [3, 1, 0, 0], Want::Reply(15, NONE)),
     (1, 12, [2, 3, 0, 0], Want::Reply(15, NONE)),
-    // the permission of each subtype
+    // the permission for each subtype
     (7, 12, [0, 1, 0, 0], Want::Reply(2002, NONE)),
     (7, 12, [1, 1, 0, 0], Want::Reply(2002, NONE)),
     (1, 12, [0, 2, 0, 0], Want::Reply(2002, NONE)),
     (1, 12, [1, 2, 0, 0], Want::Reply(2002, NONE)),
-    // a scope needs none, and does nothing
+    // a scope needs no permission, and has no effect
     (7, 12, [2, 0, 0, 0], Want::Reply(0, NONE)),
     (7, 12, [2, 1, 0, 0], Want::Reply(0, NONE)),
     (1, 12, [2, 2, 0, 0], Want::Reply(0, NONE)),
     (7, 3, [7, 0, 0, 0], Want::Reply(0, [1, 0, 0])),
-    // the caller alone needs none: it restarts, and goes off
+    // the caller's own needs no permission: it restarts, and it goes off
     (7, 12, [1, 0, 0, 0], Want::Reply(0, NONE)),
     (7, 3, [7, 0, 0, 0], Want::Reply(0, [1, 0, 0])),
     (7, 12, [0, 0, 0, 0], Want::Reply(0, NONE)),
@@ -51,7 +51,7 @@ fn the_first_check_of_a_shutdown_decides(rt: HostRuntime) -> Result<(), Fail> {
     Ok(())
 }
 
-/// A master shuts itself down, and one restarts: its start is written though its processor ran before.
+/// A master shuts itself down, and one restarts: its start is told although its processor ran before.
 static OWN: [Turn; 11] = [
     (Trigger::Boot(3, 0), &[(3, 0)], &[3]),
     (Trigger::Call(1, 12, [1, 0, 0, 0]), &[(2, 0)], &[3]),
@@ -73,7 +73,7 @@ fn a_master_shuts_itself_down(rt: HostRuntime) -> Result<(), Fail> {
     Ok(())
 }
 
-/// All is restarted by subtype 1, and by subtype 2.
+/// Everything is restarted by subtype 1, and by subtype 2.
 static RESTARTS: [Turn; 8] = [
     (Trigger::Call(7, 11, [7, 46, 1, 0]), &[], &[]),
     (Trigger::Call(7, 13, [11, 2, 0, 2]), &[], &[11]),
@@ -82,7 +82,7 @@ static RESTARTS: [Turn; 8] = [
         &[(2, 0)],
         &[7, 11, 15, 19, 46],
     ),
-    // once more: only a start
+    // again: only a start
     (Trigger::Call(1, 12, [1, 1, 0, 0]), &[(2, 0)], &[]),
     (Trigger::Irq(46), &[], &[]),
     (Trigger::Boot(7, 0), &[(7, 0)], &[7]),
@@ -90,7 +90,7 @@ static RESTARTS: [Turn; 8] = [
     (Trigger::Call(7, 12, [1, 2, 0, 0]), &[(2, 0)], &[3, 7]),
 ];
 
-/// Rows after a restart of all are those at load: those of the first master are held again.
+/// Rows after a restart of everything are those at load: those of the first master are held again.
 static RELOADED: [RowCase; 4] = [
     (
         1,
@@ -120,7 +120,7 @@ fn all_restarts_as_at_load(rt: HostRuntime) -> Result<(), Fail> {
     Ok(())
 }
 
-/// All is shut down, and nothing happens any more.
+/// Everything is shut down, and nothing happens any more.
 static HALTED: [Turn; 9] = [
     (Trigger::Call(7, 13, [11, 1, 0, 2]), &[], &[11]),
     (Trigger::Call(7, 11, [7, 46, 1, 0]), &[], &[]),
@@ -144,7 +144,7 @@ fn nothing_happens_once_all_is_shut_down(rt: HostRuntime) -> Result<(), Fail> {
     Ok(())
 }
 
-/// What is pending ends where its target restarts, and where all is restarted or shut down.
+/// A pending request ends when its target restarts, and when everything is restarted or shut down.
 static PENDING: [Notice; 11] = [
     (
         Trigger::Call(1, 6, [7, 2, 50, 1]),
@@ -163,7 +163,7 @@ static PENDING: [Notice; 11] = [
         &[],
         &[(7, 30, [201, 50, 1, 40])],
     ),
-    // late replies to all, and callbacks to who runs then
+    // late replies go to all, callbacks only to masters that run then
     (
         Trigger::Call(1, 12, [1, 1, 0, 0]),
         &[(7, 0)],

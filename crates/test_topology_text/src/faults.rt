@@ -1,4 +1,4 @@
-//! Texts that are refused: the first bad line with the first of its causes, or the first rule that the topology breaks.
+//! Texts that are refused: the first bad line with its first cause, or the first rule that the topology breaks.
 
 use crate::rows::all_right;
 use pm_topofile::{TopoTextCause, TopoTextFault, TopologyError, read_topology};
@@ -67,7 +67,7 @@ static BAD: [(&str, u32, TopoTextCause); 33] = [
         TopoTextCause::Place,
     ),
     ("owner 1 2\nline 1 none\n", 2, TopoTextCause::Place),
-    // a form that is wrong counts before the place, and the place before the parent
+    // a wrong form counts before the place, and the place before the parent
     ("owner 1 2\nline 1 nobody\n", 2, TopoTextCause::Form),
     ("owner 1 2\nproc 2 1 0 0\n", 2, TopoTextCause::Place),
     // parents
@@ -83,7 +83,7 @@ static BAD: [(&str, u32, TopoTextCause); 33] = [
         TopoTextCause::Parent,
     ),
     ("power 1 none 0 0 0\nslave 2 3\n", 2, TopoTextCause::Parent),
-    // the first bad line counts, after empty lines and comments too
+    // the first bad line counts, even after empty lines and comments
     ("\n# none\nslave 2 3\nchip\n", 3, TopoTextCause::Parent),
     // a bad line counts before a broken rule
     (
@@ -136,7 +136,7 @@ fn long_lines_and_long_texts_are_refused(rt: HostRuntime) -> Result<(), Fail> {
     Ok(())
 }
 
-/// A text of good lines, and the rule that its topology breaks at a place.
+/// A row: a text of good lines, and the rule that its topology breaks, with the place.
 static BROKEN: [(&str, TopoCause, usize); 10] = [
     (
         "power 1 none 0 0 0\npower 1 none 0 0 0\n",
@@ -151,7 +151,7 @@ static BROKEN: [(&str, TopoCause, usize); 10] = [
     ),
     ("line 1 none\nline 2 3\n", TopoCause::BadTarget, 1),
     ("owner 1 2\n", TopoCause::BadMember, 0),
-    // a master that comes again after another one is an entry of its own
+    // a master that comes again after another one has a second entry
     (
         "power 1 none 0 0 0\nproc 2 1 0 0\nproc 3 1 0 0\nowner 1 2\nowner 6 3\nowner 1 2\n",
         TopoCause::Repeated,

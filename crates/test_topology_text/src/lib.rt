@@ -1,4 +1,4 @@
-//! Tests of the text of a topology: what is read, what is refused, and what is printed.
+//! Tests of a topology's text: texts that are read, texts that are refused, and printed texts.
 #![tactic(auto)]
 
 #[cfg(test)]

@@ -1,4 +1,4 @@
-//! Texts that are read, and what is printed of their topologies.
+//! Texts that are read, and the printed texts of their topologies.
 
 use crate::rows::all_right;
 use pm_chip::zynqmp;
@@ -13,7 +13,7 @@ const SMALL: &str =
 /// A text in pieces.
 type Text = [&'static str; 5];
 
-/// What each text needs: a power node, four processors, and the four masters.
+/// The part that each text needs: a power node, four processors, and the four masters.
 const POWER: &str = "power 90 none 0 0 0\n";
 
 const PROCS: &str = "proc 91 90 0 0\nproc 92 90 0 0\nproc 93 90 0 0\nproc 94 90 0 0\n";
@@ -24,7 +24,7 @@ const OWNERS: &str = "owner 1 91\nowner 6 92\nowner 7 93\nowner 8 94\n";
 const MORE: &str =
     "proc 100 90 0 0\nproc 101 90 0 0\nproc 102 90 0 0\nproc 103 90 0 0\nproc 104 90 0 0\nproc 105 90 0 0\nproc 106 90 0 0\nproc 107 90 0 0\nproc 108 90 0 0\nproc 109 90 0 0\nproc 110 90 0 0\nproc 111 90 0 0\nproc 112 90 0 0\nproc 113 90 0 0\nproc 114 90 0 0\nproc 115 90 0 0\nproc 116 90 0 0\nproc 117 90 0 0\n";
 
-/// A text, and what is printed of its topology.
+/// A row: a text, and the printed text of its topology.
 static GOOD: [(Text, Text); 9] = [
     ([SMALL, "", "", "", ""], [SMALL, "", "", "", ""]),
     (
@@ -70,7 +70,7 @@ static GOOD: [(Text, Text); 9] = [
             OWNERS,
         ],
     ),
-    // states belong to the last slave, also after a comment
+    // states belong to the last slave, even after a comment
     (
         [
             POWER,
@@ -87,7 +87,7 @@ static GOOD: [(Text, Text); 9] = [
             OWNERS,
         ],
     ),
-    // lines of one master are one entry, also after a comment
+    // lines of one master are one entry, even after a comment
     (
         [
             POWER,
@@ -148,7 +148,7 @@ fn joined(alloc: Global, pieces: &Text) -> Result<Vec<u8>, AllocError> {
     Ok(text)
 }
 
-/// Whether this is printed of the topology that a text means.
+/// Whether the topology of a text has this printed text.
 fn is_printed(alloc: Global, text: &Text, want: &Text) -> Result<bool, Fail> {
     let text = joined(alloc, text)?;
     let want = joined(alloc, want)?;

@@ -22,7 +22,7 @@ use Rattle.test_two_runs.specs.Sides.{AreSides, at_4096}
 abbrev pub IsNamed : NodeId → Object → Type 0
 IsNamed m object = IsTrue (list_any (λ (r : MasterRec). r.node == m.0) object.masters)
 
--- the objects of a run are well formed where the loaded one and those that are attached are
+-- the objects of a run are well formed if the loaded one and the attached ones are
 usable_formed : (object : Object) (others : List Object) → Each IsObject others → Each IsObject (usable_among object (map at_4096 others))
 usable_formed object [] formed = tt
 usable_formed object (other ∷ others) formed = by (have_same_masters object.masters other.masters) (usable_formed object others formed.1)
@@ -45,7 +45,7 @@ sides_at_load m object attached chip loud quiet are named agree first second =
     let start : State = load_of object attached chip in
     subst (λ (b : State). AreSides m b quiet) (sym first) (subst (λ (b : State). AreSides m start b) (sym second) (record { object = are; named = named; agree = agree }))
 
--- places that are told to be equal are
+-- places that are found equal are equal
 pub same_place : (one other : Option ℕ) → option_eq nat_eq one other ≡ true → one ≡ other
 same_place None None is = refl
 same_place None (Some k) is = cc

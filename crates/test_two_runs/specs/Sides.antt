@@ -11,8 +11,8 @@ use Rattle.pm_laws.specs.Agree.{Agree}
 use Rattle.pm_laws.specs.Border.{AreObjects}
 use Rattle.pm_laws.specs.Left.{border_in}
 
--- the books have one object, which has the master, and what is attached; all that can be put in force is well formed; and they agree
--- beyond its reach
+-- both books have the same object, which has the master, and the same attached objects; all that can be put in force
+-- is well formed; and the books agree beyond the reach
 pub record AreSides (m : NodeId) (loud quiet : State) : Type 0 where
   pub object : AreObjects loud.fixed
   pub named : IsTrue (list_any (λ (r : MasterRec). r.node == m.0) loud.fixed.object.masters)

@@ -1,4 +1,4 @@
-//! Two books side by side, one of them without the messages of a master: what each step of both puts out.
+//! Two books side by side, one of them without the messages of a master: the outputs of each step in both.
 
 ghost use Rattle.test_two_runs.specs.Sides.{AreSides};
 
@@ -10,11 +10,11 @@ use std::alloc::Global;
 use std::test::Fail;
 use test_books::Desk;
 
-/// A line of a script, by its number; what its step puts out in the book with all messages, and what in the other.
+/// A row: a script line by its number; the outputs of its step in the book with all messages, and in the other book.
 pub(crate) type Turn = (u32, &'static str, &'static str, &'static str);
 
-/// Without the messages of master 8 the request of 1 to suspend it is accepted and times out, and of that 1 is told when it
-/// wakes. Else it is refused. Node 8, of which 1 is told, is within reach as that of the master.
+/// Without the messages of master 8, the request of 1 to suspend it is accepted and times out, and 1 is told that
+/// when it wakes; with them, the request is refused. Node 8, of which 1 is told, is within reach as the master's.
 pub(crate) static ASKED: [Turn; 9] = [
     (1, "ipi 1 21", "1 reply 1 0 0 0 0\n", "1 reply 1 0 0 0 0\n"),
     (2, "boot 108 0", "2 run 108 0\n", "2 run 108 0\n"),
@@ -40,7 +40,7 @@ pub(crate) static ASKED: [Turn; 9] = [
         "6 reply 1 0 0 0 0\n",
     ),
     (7, "wfi 2", "", ""),
-    // master 8 is told of its own request, and master 1, which is asleep, nothing yet
+    // master 8 is told of its own request; master 1, which is asleep, is told nothing yet
     (8, "tick 100", "8 call 8 31 8 2006 0 0\n", ""),
     (
         9,
@@ -50,7 +50,7 @@ pub(crate) static ASKED: [Turn; 9] = [
     ),
 ];
 
-/// Of slave 46, which is beyond, master 1 is told the same in both: that nobody uses it any more.
+/// Both books tell master 1 the same of slave 46, which is beyond: that nobody uses it any more.
 static WATCHED: [Turn; 14] = [
     (1, "ipi 1 21", "1 reply 1 0 0 0 0\n", "1 reply 1 0 0 0 0\n"),
     (2, "boot 108 0", "2 run 108 0\n", "2 run 108 0\n"),
@@ -73,7 +73,7 @@ static WATCHED: [Turn; 14] = [
         "6 call 1 32 46 2 0 0\n6 reply 1 0 0 0 0\n",
         "6 call 1 32 46 2 0 0\n6 reply 1 0 0 0 0\n",
     ),
-    // what is told of node 8 differs
+    // the notices about node 8 differ
     (
         7,
         "ipi 1 6 8 3 0 0",
@@ -95,13 +95,13 @@ static WATCHED: [Turn; 14] = [
         "11 call 1 32 46 2 0 0\n11 reply 1 0 0 0 0\n",
         "11 call 1 32 46 2 0 0\n11 reply 1 0 0 0 0\n",
     ),
-    // a book knows no boxes
+    // a book has no boxes
     (12, "post 8 7 108 0 0 0 0", "", ""),
     (13, "post 1 13 46 1 0 2", "", ""),
     (14, "serve", "", ""),
 ];
 
-/// What is beyond the reach of master 8: the power node of its number, too.
+/// The nodes beyond the reach of master 8, with the power node of its number.
 const BEYOND: &[u32] = &[2, 8, 46, 107];
 
 /// Whether a node has the same value and operating point in both books.
@@ -121,7 +121,7 @@ fn are_alike(loud: &Book, quiet: &Book, nodes: &[u32]) -> bool {
     true
 }
 
-/// Whether a line puts out its text in each book, and all that is beyond is alike after it.
+/// Whether a line has its outputs in each book, and all that is beyond is alike after it.
 fn is_right(
     alloc: Global,
     loud: &mut Desk,
@@ -140,7 +140,7 @@ fn is_right(
     Ok(is_told && are_alike(&loud.book, &quiet.book, beyond))
 }
 
-/// The first line of these of which not that is put out, or after which not all that is beyond is alike.
+/// The first of these lines that has other outputs, or after which not all that is beyond is alike.
 fn wrong_turn(
     alloc: Global,
     loud: &mut Desk,
@@ -160,8 +160,8 @@ fn wrong_turn(
     Ok(None)
 }
 
-/// The first line of these of which not that is put out, and whether processor 108 of master 8, which is within, is
-/// alike in both books after them.
+/// The first of these lines that has other outputs; and whether processor 108 of master 8, which is within, is alike
+/// in both books after them.
 fn compared(alloc: Global, turns: &[Turn]) -> Result<(Option<u32>, bool), Fail> {
     let m = NodeId(8);
     let mut sides = sides_of(alloc, m)?;
@@ -178,15 +178,16 @@ fn what_is_beyond_is_told_the_same(rt: HostRuntime) -> Result<(), Fail> {
     Ok(())
 }
 
-/// Master 8 begins to sleep in the one book.
+/// Master 8 starts its suspend in one book only.
 static SUSPENDED: [Turn; 3] = [
     (1, "ipi 1 21", "1 reply 1 0 0 0 0\n", "1 reply 1 0 0 0 0\n"),
     (2, "boot 108 0", "2 run 108 0\n", "2 run 108 0\n"),
     (3, "ipi 8 7 108 0 0 0 0", "3 reply 8 0 0 0 0\n", ""),
 ];
 
-/// The first line of these of which not that is put out; whether a processor then waits in the one book alone, since it
-/// is that of master 8; and whether what is beyond the reach of 8, and that processor, are alike in both books.
+/// The first of these lines that has other outputs. After them a processor of master 8 waits in one book only:
+/// whether it could wait so, and whether all that is beyond the reach of 8, and that processor, are alike in both
+/// books.
 fn waited(alloc: Global, proc: u32) -> Result<(Option<u32>, bool, bool, bool), Fail> {
     let m = NodeId(8);
     let mut sides = sides_of(alloc, m)?;
@@ -214,8 +215,8 @@ fn the_wait_of_a_processor_stays_within(rt: HostRuntime) -> Result<(), Fail> {
     Ok(())
 }
 
-/// Master 1, which is beyond the reach of 8, puts the attached object in force: in both books. Slave 46, which 8 may use by
-/// that object, is within the reach of 8 from the load on.
+/// Master 1, which is beyond the reach of 8, puts the attached object in force in both books. Slave 46, which 8 may
+/// use by that object, is within the reach of 8 from the load on.
 static ENFORCED: [Turn; 6] = [
     (1, "boot 108 0", "1 run 108 0\n", "1 run 108 0\n"),
     (2, "ipi 8 13 46 1 0 2", "2 reply 8 2002 0 0 0\n", ""),
@@ -240,8 +241,8 @@ static ENFORCED: [Turn; 6] = [
     ),
 ];
 
-/// Without the messages of master 1 no object is put in force. Who may set the configuration reaches each master, so all
-/// that differs is within its reach.
+/// Without the messages of master 1 no object is put in force. A master that may set the configuration reaches all
+/// masters, so that all differences are within its reach.
 static HIDDEN: [Turn; 5] = [
     (1, "boot 108 0", "1 run 108 0\n", "1 run 108 0\n"),
     (2, "ipi 1 13 46 1 0 2", "2 reply 1 0 0 0 0\n", ""),
@@ -255,8 +256,8 @@ static HIDDEN: [Turn; 5] = [
     (5, "ipi 1 2 4096", "5 reply 1 2002 0 0 0\n", ""),
 ];
 
-/// The first line of these of which not that is put out, or after which not all that is beyond is alike, where this master
-/// is left out; and who uses slave 46 in each book after them, as master 8 is told.
+/// The first of these lines, without this master's messages, that has other outputs, or after which not all that is
+/// beyond is alike; and the users of slave 46 in each book after them, as master 8 is told.
 fn configured(
     alloc: Global,
     m: u32,

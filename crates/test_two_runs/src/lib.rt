@@ -1,5 +1,4 @@
-//! Tests of two runs side by side over a small chip, in which a number is one master's node and another
-//! unit's.
+//! Tests of two runs side by side over a small chip, in which one number is a master's node and another unit's.
 #![tactic(auto)]
 
 #[cfg(test)]

@@ -1,4 +1,4 @@
-//! A list of events is run at once, and one by one.
+//! A list of events is stepped through in one call, and one by one.
 
 use crate::both::{ASKED, Turn};
 use crate::rows::all_right;
@@ -11,7 +11,7 @@ use std::alloc::Global;
 use std::test::Fail;
 use test_books::{Desk, SMALL_OBJECT, have_moved, object_of};
 
-/// The event of a line, with nothing in place of a message of the master.
+/// The quiet event of a line: nothing in place of a message of the master.
 fn event_without(m: NodeId, line: &str) -> Result<Event, Fail> {
     let event = parse_line(line.as_bytes())?;
     let pass = Event::Pass;
@@ -19,7 +19,7 @@ fn event_without(m: NodeId, line: &str) -> Result<Event, Fail> {
     Ok(if is_left_out { Event::Pass } else { event })
 }
 
-/// The events of these lines, with nothing in place of each message of a master.
+/// The quiet events of these lines.
 fn events_without(alloc: Global, m: NodeId, turns: &[Turn]) -> Result<Vec<Event>, Fail> {
     let mut events = Vec::new(alloc);
     for (_, line, _, _) in turns {
@@ -28,12 +28,12 @@ fn events_without(alloc: Global, m: NodeId, turns: &[Turn]) -> Result<Vec<Event>
     Ok(events)
 }
 
-/// These events at once.
+/// Steps through these events in one call.
 fn run_at_once(desk: &mut Desk, events: &[Event]) {
     run(&mut desk.book, events, &mut desk.out);
 }
 
-/// The book at load, after a run of these events at once.
+/// The book from load, stepped through these events in one call.
 fn run_of(alloc: Global, events: &[Event]) -> Result<Box<Desk>, Fail> {
     let object = Box::into_inner(object_of(alloc, SMALL_OBJECT)?);
     let mut desk = desk_of(alloc, object, List::new(alloc))?;
@@ -41,7 +41,7 @@ fn run_of(alloc: Global, events: &[Event]) -> Result<Box<Desk>, Fail> {
     Ok(desk)
 }
 
-/// The book at load, after these events one by one.
+/// The book from load, stepped through these events one by one.
 fn steps_of(alloc: Global, events: &[Event]) -> Result<Box<Desk>, Fail> {
     let object = Box::into_inner(object_of(alloc, SMALL_OBJECT)?);
     let mut desk = desk_of(alloc, object, List::new(alloc))?;
@@ -73,7 +73,7 @@ fn are_equal(one: &Book, other: &Book) -> bool {
     one.units() == other.units()
 }
 
-/// The master that is left out, and what the last step puts out. Node 9 is no master.
+/// A row: the master that is left out, and the outputs of the last step. Node 9 is no master.
 static ENDS: [(u32, &str); 2] = [
     (9, "9 run 2 0\n"),
     (8, "9 run 2 0\n9 call 1 31 8 2006 0 0\n"),
@@ -94,13 +94,13 @@ fn desks_of(alloc: Global, events: &[Event]) -> Result<(Box<Desk>, Box<Desk>), F
     with(run_of(alloc, events)?, steps_of(alloc, events))
 }
 
-/// Whether the last of nine steps put out this text in both outboxes.
+/// Whether the outputs of the last of nine steps are this text, in both outboxes.
 fn both_write(alloc: Global, one: &Outbox, other: &Outbox, text: &str) -> Result<bool, Fail> {
     Ok(writes(alloc, 9, one, text)? && writes(alloc, 9, other, text)?)
 }
 
-/// Whether these events, at once and one by one, put out this text at their end, and leave equal books, which have the values
-/// of `END`.
+/// Whether these events, in one call and one by one, have these outputs at their end, and leave equal books with the
+/// values of `END`.
 fn ends(alloc: Global, events: &[Event], text: &str) -> Result<bool, Fail> {
     let (at_once, by_steps) = desks_of(alloc, events)?;
     let are_told = both_write(alloc, &at_once.out, &by_steps.out, text);
@@ -110,7 +110,7 @@ fn ends(alloc: Global, events: &[Event], text: &str) -> Result<bool, Fail> {
     Ok(are_told? && are_kept)
 }
 
-/// The place of the first end that isn't so.
+/// The index of the first wrong row.
 fn wrong_end(alloc: Global) -> Result<Option<usize>, Fail> {
     for (place, (m, text)) in ENDS.iter().enumerate() {
         let events = events_without(alloc, NodeId(*m), &ASKED)?;
@@ -127,13 +127,13 @@ fn a_run_ends_as_its_steps_do(rt: HostRuntime) -> Result<(), Fail> {
     Ok(())
 }
 
-/// How many of the lines are run; what the outbox holds then, and the nodes that moved.
+/// A row: the number of lines that are run, and then the text in the outbox and the nodes that moved.
 static KEPT: [(usize, &str, &[u32]); 2] = [
     (0, "0 run 2 0\n", &[2, 100]),
     (9, "0 run 2 0\n0 call 1 31 8 2006 0 0\n", &[2]),
 ];
 
-/// The book after these events, twice.
+/// Two equal books after these events.
 fn same_desks(alloc: Global, events: &[Event]) -> Result<(Box<Desk>, Box<Desk>), Fail> {
     with(run_of(alloc, events)?, run_of(alloc, events))
 }
@@ -149,7 +149,7 @@ fn keeps(alloc: Global, events: &[Event], text: &str, moved: &[u32]) -> Result<b
     Ok(is_told? && is_kept)
 }
 
-/// The place of the first of these that isn't so.
+/// The index of the first wrong row.
 fn wrong_kept(alloc: Global, all: &[Event]) -> Result<Option<usize>, Fail> {
     for (place, (count, text, moved)) in KEPT.iter().enumerate() {
         let events = all.get(..*count).ok_or("too few")?;

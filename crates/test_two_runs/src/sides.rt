@@ -23,7 +23,7 @@ use std::slice;
 use std::test::Fail;
 use test_books::{Desk, SMALL_OBJECT, boxed, desk_beside, object_of, small_chip};
 
-/// The book of an object at load over the small chip, with what is attached, on the heap.
+/// The book of an object at load over the small chip, with attached objects, in a box.
 pub(crate) fn desk_of(
     alloc: Global,
     object: Object,
@@ -40,7 +40,7 @@ pub(crate) fn desk_of(
     }
 }
 
-/// The book of a copy of an object at load over the small chip, where copies of others are attached.
+/// The book of a copy of an object at load over the small chip, with copies of attached objects.
 fn desk_of_copies(alloc: Global, object: &Object, others: &[Object]) -> Result<Box<Desk>, NoMemory>
     ensures { IfOk result (λ desk. desk.value.book ≡ load_of object.now (map at_4096 others.now) small) }
 {
@@ -49,7 +49,7 @@ fn desk_of_copies(alloc: Global, object: &Object, others: &[Object]) -> Result<B
     desk_of(alloc, object, Box::into_inner(attached))
 }
 
-/// These objects, each attached at address 4096, on the heap.
+/// These objects, each attached at address 4096, in a box.
 fn attached_of(alloc: Global, objects: &[Object]) -> Result<Box<List<Attached>>, NoMemory>
     ensures { IfOk result (λ attached. attached.value ≡ map at_4096 objects.now) }
 {
@@ -77,7 +77,7 @@ pub(crate) struct Sides {
     pub(crate) quiet: Box<Desk>,
 }
 
-/// Both books at load, where the number is that of a master of the object.
+/// Both books at load, if the number is that of a master of the object.
 pub(crate) fn sides_of(alloc: Global, m: NodeId) -> Result<Sides, Fail>
     ensures { IfOk result (λ sides. AreSides m sides.loud.value.book sides.quiet.value.book) }
 {
@@ -95,8 +95,8 @@ const EXCHANGED: &[u32] = &[
     2, 2, 1, 0x101, 2, 1, 0x1, 100, 0, 0, 8, 0x200, 100, 0, 0, 0x102, 1, 46, 0, 0x200,
 ];
 
-/// Both books at load over an object in which master 1 may set the configuration, if one is attached in which slave 46
-/// is master 8's.
+/// Both books at load over an object in which master 1 may set the configuration, with an attached object in which
+/// slave 46 is master 8's.
 pub(crate) fn configured_sides(alloc: Global, m: NodeId) -> Result<Sides, Fail>
     ensures { IfOk result (λ sides. AreSides m sides.loud.value.book sides.quiet.value.book) }
 {
@@ -105,7 +105,7 @@ pub(crate) fn configured_sides(alloc: Global, m: NodeId) -> Result<Sides, Fail>
     sides_with(alloc, &object, slice::from_ref(&*other), m)
 }
 
-/// Both books of an object at load, where the number is that of a master of it and others are attached.
+/// Both books of an object at load with attached objects, if the number is that of one of its masters.
 fn sides_with(alloc: Global, object: &Object, others: &[Object], m: NodeId) -> Result<Sides, Fail>
     requires formed { IsObject object.now }
     requires others { Each IsObject others.now }
@@ -119,7 +119,7 @@ fn sides_with(alloc: Global, object: &Object, others: &[Object], m: NodeId) -> R
     }
 }
 
-/// Both books of an object that has the master, at load, where others are attached.
+/// Both books, at load with attached objects, of an object that has the master.
 fn sides_over(
     alloc: Global,
     object: &Object,
@@ -138,7 +138,7 @@ fn sides_over(
     Ok(Sides { loud, quiet })
 }
 
-/// The event in the one book, and in the other the same event, or nothing if it is a message of the master.
+/// Steps one book by the event, and the other by its quiet event: nothing, if it is a message of the master.
 fn step(loud: &mut Desk, quiet: &mut Desk, m: NodeId, event: &Event)
     requires { AreSides m loud.old.book quiet.old.book }
     ensures { AreSides m loud.new.book quiet.new.book }
@@ -153,7 +153,7 @@ fn step(loud: &mut Desk, quiet: &mut Desk, m: NodeId, event: &Event)
     );
 }
 
-/// The event of a line in both books, as `step`.
+/// Steps both books by the event of a line, as `step` does.
 pub(crate) fn step_line(
     loud: &mut Desk,
     quiet: &mut Desk,
@@ -183,7 +183,7 @@ fn place_of(object: &Object, m: NodeId) -> Option<usize>
     masters.iter().position(|record| record.node == m.0)
 }
 
-/// The wait of a processor in the one book, and nothing in the other, if the processor is the master's.
+/// Lets a processor wait in one book, and steps the other by nothing, if the processor is the master's.
 pub(crate) fn wait_alone(loud: &mut Desk, quiet: &mut Desk, m: NodeId, proc: NodeId) -> bool
     requires { AreSides m loud.old.book quiet.old.book }
     ensures { AreSides m loud.new.book quiet.new.book }

@@ -1,4 +1,4 @@
--- What the handler of the tests says.
+-- The response of the tests' handler.
 use Rattle.std.specs.Prelude.{[], ◌∷◌}
 use Rattle.pm_base.specs.declared.events.Message.{Message}
 use Rattle.pm_ipi.specs.declared.responses.Response.{Response}

@@ -1,4 +1,4 @@
-//! Rows of objects that are attached and put in force.
+//! Rows of attached objects that are put in force.
 
 use crate::checks::{Row, check_rows};
 use pm_base::Exit;
@@ -10,9 +10,9 @@ const CONFIGURED: &[u32] = &[
     0x107, 1, 0,
 ];
 
-/// What is run, what it writes and how it ends.
+/// Words and inputs of a run, its text, and its exit.
 static ROWS: [Row; 2] = [
-    // another object is put in force, and back is refused
+    // another object is put in force; putting the first one back is refused
     Row {
         words: "replay obj script",
         object: CONFIGURED,
@@ -59,7 +59,7 @@ end power 62 1 1
 ",
         exit: Exit::Done,
     },
-    // an attached object that has a fault, and a line that comes too late
+    // an attached object with a fault, and a line that comes too late
     Row {
         words: "replay obj script",
         object: CONFIGURED,

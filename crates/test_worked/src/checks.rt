@@ -1,4 +1,4 @@
-//! How a row is judged: by what is written and by the exit.
+//! The comparisons of a row with its text and exit.
 
 ghost use Rattle.std.specs.Prelude.{◌≡◌};
 ghost use Rattle.pm_base.specs.declared.names.Unit.{Unit};
@@ -15,7 +15,7 @@ use test_fixtures::{
     Asked, LABORATORY, LABORATORY_LOADED, LABORATORY_SETTLED, joined, model, replay_of,
 };
 
-/// The words of a run, the words of its object, its script, the text of its topology, what it writes, and how it ends.
+/// A row: the words of a run, the words of its object, its script, the text of its topology, its text, and its exit.
 pub(crate) struct Row {
     pub words: &'static str,
     pub object: &'static [u32],
@@ -51,7 +51,7 @@ pub(crate) fn check(
     check_over(rt, asked, None, text, exit, &mut *device)
 }
 
-/// Compares a run over a sink with this room, and any device that stands at 0, with its text and its exit.
+/// Compares a run with its text and exit, over a sink with this room and any device with all units at 0.
 pub(crate) fn check_over<D: Device>(
     rt: &(impl Abort + AllocGlobal),
     asked: &Asked,
@@ -70,7 +70,7 @@ pub(crate) fn check_over<D: Device>(
     Ok(())
 }
 
-/// Stops if a run of these words didn't end with the exit, or didn't write the text.
+/// Fails the test if a run of these words had another exit or another text.
 pub(crate) fn judge(
     rt: &impl Abort,
     words: &str,
@@ -82,8 +82,8 @@ pub(crate) fn judge(
     assert_eq!(rt; (found, written), (exit, text), "{words}");
 }
 
-/// Compares the run of a script over the laboratory's object, after its first line, `ipi 1 21`, with its text after that
-/// line's.
+/// Compares the run of a script over the laboratory's object, after its first line `ipi 1 21`, with its text after
+/// that line's.
 pub(crate) fn check_settled(
     rt: &(impl Abort + AllocGlobal),
     script: &str,

@@ -1,4 +1,4 @@
-//! Rows over a device that fails: a node that is broken by a line, and commands that fail by their number.
+//! Rows over a failing device: a node that a line breaks, and commands that fail by their number.
 
 use crate::checks::{check_over, check_settled};
 use pm_base::Exit;
@@ -6,7 +6,8 @@ use std::process::Abort;
 use std::test::Fail;
 use test_fixtures::{LABORATORY, LABORATORY_LOADED, LABORATORY_SETTLED, joined, listed, replay_of};
 
-/// A node of the device is broken and mended: its script after the first line, `ipi 1 21`, and its text after that line's.
+/// A node of the device is broken and mended: the script after its first line `ipi 1 21`, and its text after that
+/// line's.
 const BROKEN: (&str, &str) = (
     "break 28
 ipi 1 13 28 1 0 2
@@ -32,10 +33,10 @@ fn a_broken_node_fails_until_it_is_mended(rt: HostRuntime) -> Result<(), Fail> {
     check_settled(&rt, script, text)
 }
 
-/// The commands that fail, a script over the laboratory's object after its first line, `ipi 1 21`, and its text after that
-/// line's.
+/// A row: the commands that fail, a script over the laboratory's object after its first line `ipi 1 21`, and its text
+/// after that line's.
 static LISTED: [(&[u32], &str, &str); 3] = [
-    // a power-up fails, and again where the state is asked for
+    // a power-up fails, and fails again in the step that asks for the state
     (
         &[15, 16],
         "ipi 1 13 28 1 0 2\nipi 1 3 28\n",

@@ -12,7 +12,7 @@ use std::process::Abort;
 use std::test::Fail;
 use test_fixtures::{LABORATORY, LABORATORY_LOADED, LABORATORY_SETTLED, joined, model, replay_of};
 
-/// Says status 0 and the words 5, 0, 0, whatever it is asked.
+/// A handler with one response: status 0 and the words 5, 0, 0.
 #[derive(Drop)]
 struct Five;
 
@@ -60,8 +60,8 @@ fn programs_tasks(
     Ok(tasks)
 }
 
-/// Compares the run of a script after its first line, `ipi 1 21`, with these modules and the program's tasks, with its text
-/// after that line's.
+/// Compares the run of a script after its first line `ipi 1 21`, with these modules and the program's tasks, with its
+/// text after that line's.
 fn check_handled(
     rt: &(impl Abort + AllocGlobal),
     modules: &Modules,
@@ -101,7 +101,7 @@ end power 10 1 1
 end power 62 1 1
 ",
     ),
-    // a task is started, comes due, is cancelled and is not there
+    // a task is started, comes due, is taken out, and isn't there
     (
         "task 0 100
 tick 99

@@ -1,4 +1,4 @@
-//! Rows of inputs and sinks that fail, and of a line that is too long.
+//! Rows of failing inputs and sinks, and of a line that is too long.
 
 use crate::checks::{check, check_over};
 use pm_base::Exit;

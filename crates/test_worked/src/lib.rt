@@ -1,5 +1,5 @@
-//! Tests of whole runs through the top call, each worked out by hand: the words, the files, the device, what is written, and the
-//! exit.
+//! Tests of whole runs through the top call, each worked out by hand: the words, the files, the device, the text, and
+//! the exit.
 #![tactic(auto)]
 
 #[cfg(test)]

@@ -1,10 +1,10 @@
-//! Rows of scripts that are made.
+//! Rows of generated scripts.
 
 use crate::checks::{Row, check_rows};
 use pm_base::Exit;
 use std::test::Fail;
 
-/// The shortest script that is made, and the longest.
+/// The shortest generated script, and the longest.
 static ROWS: [Row; 2] = [
     Row {
         words: "make 1",

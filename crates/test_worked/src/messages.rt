@@ -102,7 +102,7 @@ end slave 11 1 1
 end power 62 1 1
 ",
     ),
-    // a refusal that no reply is wanted of, and an acknowledgement that there is not
+    // a refusal for which no reply is wanted, and an unknown acknowledge kind
     (
         "ipi 1 13 50 1 0 1
 ipi 1 13 33 1 0 4
@@ -114,7 +114,7 @@ end power 10 1 1
 end power 62 1 1
 ",
     ),
-    // a shutdown of all is refused, and one of the own subsystem is done
+    // a shutdown of everything is refused; one of the own subsystem is done
     (
         "ipi 1 12 0 2
 ipi 1 12 0 0

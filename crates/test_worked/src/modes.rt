@@ -1,4 +1,4 @@
-//! Rows in which masters sleep, wake, are woken, fall and are asked to suspend.
+//! Rows in which masters sleep, wake, are woken, go off, and are asked to suspend.
 
 use crate::checks::check_settled;
 use std::test::Fail;
@@ -37,7 +37,7 @@ end slave 33 1 1
 end power 62 1 1
 ",
     ),
-    // an interrupt before the wait aborts the suspend, and what was scheduled is gone
+    // an interrupt before the wait ends the suspend, and scheduled requirements are dropped
     (
         "ipi 1 13 33 1 0 2
 ipi 1 11 2 46 1

@@ -5,7 +5,7 @@ use std::test::Fail;
 
 /// A script over the laboratory's object after its first line, `ipi 1 21`, and its text after that line's.
 static ROWS: [(&str, &str); 2] = [
-    // two changes for a master that sleeps come as one callback when it wakes
+    // two changes for a sleeping master are one callback when it wakes
     (
         "boot 7 0
 ipi 7 5 11 1 0 1

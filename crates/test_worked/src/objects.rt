@@ -1,13 +1,13 @@
-//! Rows of objects: their faults, their texts, and what a preallocation gives.
+//! Rows of objects: their faults, their texts, and the effect of a preallocation.
 
 use crate::checks::{Row, check, check_rows};
 use pm_base::Exit;
 use std::test::Fail;
 use test_fixtures::{Asked, LABORATORY, OBJECT, bytes_of, replay_of};
 
-/// What is run, what it writes and how it ends.
+/// Words and inputs of a run, its text, and its exit.
 static ROWS: [Row; 11] = [
-    // a preallocation of a slave that is not listed
+    // a preallocation of a slave that isn't listed
     Row {
         words: "replay obj script",
         object: &[2, 2, 1, 0x101, 1, 1, 1, 100, 0, 0, 0x103, 1, 1, 1, 33, 2],
@@ -18,7 +18,7 @@ static ROWS: [Row; 11] = [
 ",
         exit: Exit::BadObject,
     },
-    // a count that no words follow
+    // a count that isn't followed by so many words
     Row {
         words: "replay obj script",
         object: &[2, 2, 1, 0x101, 1, 1, 1, 100, 0, 0, 0x102, 0xFFFFFFFF],
@@ -40,7 +40,7 @@ static ROWS: [Row; 11] = [
 ",
         exit: Exit::BadObject,
     },
-    // one word behind the end
+    // one word after the end
     Row {
         words: "replay obj script",
         object: &[
@@ -113,7 +113,7 @@ master 1 1 100 0 0
 ",
         exit: Exit::BadText,
     },
-    // no line at all is made
+    // a generated script of no line
     Row {
         words: "make 0",
         object: LABORATORY,
@@ -172,7 +172,7 @@ fn objects_are_read_printed_and_refused(rt: HostRuntime) -> Result<(), Fail> {
     check_rows(&rt, &ROWS)
 }
 
-/// A text, and the words of the object that it means.
+/// A row: a text, and the words of its object.
 static TEXTS: [(&str, &[u32]); 2] = [
     (
         "header

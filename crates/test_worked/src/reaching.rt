@@ -1,4 +1,4 @@
-//! Rows of a master's reach, and of what differs without its messages.
+//! Rows of a master's reach, and of the differences without its messages.
 
 use crate::checks::{Row, check_rows};
 use pm_base::Exit;
@@ -11,9 +11,9 @@ const CONFIGURED: &[u32] = &[
     0x107, 1, 0,
 ];
 
-/// What is run, what it writes and how it ends.
+/// Words and inputs of a run, its text, and its exit.
 static ROWS: [Row; 6] = [
-    // a slave that another master uses differs without its messages
+    // a slave that another master uses differs without the master's messages
     Row {
         words: "isolate obj script 7",
         object: OBJECT,
@@ -152,7 +152,7 @@ power 62 above 7
 ",
         exit: Exit::Done,
     },
-    // an object that was attached counts for the reach
+    // an attached object counts for the reach
     Row {
         words: "isolate obj script 7",
         object: CONFIGURED,
@@ -177,7 +177,7 @@ steps 9
 ",
         exit: Exit::Done,
     },
-    // what another master uses can be kept from a master, and its own processor stays as it is
+    // master 7 keeps a slave from master 1, whose processor doesn't differ
     Row {
         words: "isolate obj script 7",
         object: LABORATORY,

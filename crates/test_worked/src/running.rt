@@ -1,4 +1,4 @@
-//! A run: the one place in which these tests make the call, of which nothing is said to them.
+//! A run. Only here these tests make the top call; without its contract they are cheap to prove.
 
 ghost use Rattle.std.specs.Prelude.{◌≡◌};
 ghost use Rattle.pm_base.specs.declared.names.Unit.{Unit};
@@ -13,7 +13,7 @@ use std::alloc::Global;
 use std::test::Fail;
 use test_fixtures::{Asked, inputs_of, words_of};
 
-/// A run over a sink in memory, and any device that stands at 0, with these modules and tasks.
+/// A run over a sink in memory, and any device with all units at 0, with these modules and tasks.
 pub(crate) fn run_on<D: Device, H: Responder, T: Handler>(
     alloc: Global,
     asked: &Asked,
@@ -29,7 +29,7 @@ pub(crate) fn run_on<D: Device, H: Responder, T: Handler>(
     Ok(run_words(alloc, &words, &mut inputs, out, dev, modules, tasks))
 }
 
-/// The call itself.
+/// The call of the top function.
 fn run_words<D: Device, H: Responder, T: Handler>(
     alloc: Global,
     words: &[String],

@@ -12,7 +12,7 @@ use test_fixtures::{
     Asked, LABORATORY, LABORATORY_LOADED, LABORATORY_SETTLED, SMALL, joined, model, replay_of,
 };
 
-/// What is run, what it writes and how it ends.
+/// Words and inputs of a run, its text, and its exit.
 static ROWS: [Row; 3] = [
     // a slave that the chip lacks
     Row {
@@ -101,7 +101,7 @@ fn a_topology_from_a_file(rt: HostRuntime) -> Result<(), Fail> {
     check_rows(&rt, &ROWS)
 }
 
-/// The chip's table is written, and read again as the topology of a run, which stays as it is over the chip.
+/// The chip's table is written, and read again as the topology of a run, which equals the run over the chip.
 #[test]
 fn the_chips_table_is_read_again(rt: HostRuntime) -> Result<(), Fail> {
     let text = "2 set 33 0 1
@@ -125,7 +125,7 @@ ipi 1 13 33 1 0 2
     check(&rt, &asked, &whole, Exit::Done)
 }
 
-/// What `table` writes.
+/// The text of `table`.
 fn written_table(rt: &(impl Abort + AllocGlobal)) -> Result<MemSink, Fail> {
     let asked = Asked {
         words: "table",

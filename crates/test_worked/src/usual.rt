@@ -1,11 +1,12 @@
-//! Rows of the usual object: three masters, each of which may use every slave. One starts, holds each slave, and enables clocks.
+//! Rows of the usual object: three masters, each of which may use every slave. One starts, holds each slave, and
+//! enables clocks.
 
 use crate::checks::check;
 use pm_base::Exit;
 use std::test::Fail;
 use test_fixtures::{USUAL, joined, replay_of};
 
-/// What is written at load.
+/// The text of the load.
 const LOADED: &str = "0 set 9 0 1
 0 set 10 0 1
 0 set 62 0 1
@@ -72,7 +73,7 @@ const LOADED: &str = "0 set 9 0 1
 0 run 2 0
 ";
 
-/// The closing table if each slave stays as it is.
+/// The closing table if each slave keeps its state.
 const CLOSED: &str = "end power 1 1 1
 end proc 2 1 1
 end power 6 1 1
@@ -138,7 +139,7 @@ end slave 68 1 1
 end slave 69 1 1
 ";
 
-/// What the third script writes of its last line, and its closing table: the master has finished its initialization.
+/// The text of the last line of the third script, and its closing table: the master has finished its initialization.
 const SETTLED: &str = "3 set 12 2 0
 3 set 13 2 0
 3 set 14 2 0
@@ -207,7 +208,7 @@ end slave 56 1 1
 end power 62 1 1
 ";
 
-/// A script, its text after the load's, and its closing lines.
+/// A row: a script, its text after the load's, and its closing lines.
 static ROWS: [(&str, &str, &str); 3] = [
     // no line
     ("", "", CLOSED),
@@ -229,7 +230,7 @@ ipi 1 37 5
 ",
         CLOSED,
     ),
-    // a clock that follows another one runs once that does, and stops with the slaves that it runs by
+    // a clock that follows another runs once that does, and stops with the slaves by which it runs
     (
         "ipi 1 36 14
 ipi 1 36 5

@@ -1,4 +1,4 @@
--- What is attached is what the block attaches. Where memory is wanted the script was read up to somewhere.
+-- What is attached is what the block attaches. If memory runs out the script was read up to some point.
 use Rattle.pm_reader.proofs.AheadLemmas.{attaches_by, read_calls}
 use Rattle.pm_replay.proofs.run.read_block.Goals as goal
 

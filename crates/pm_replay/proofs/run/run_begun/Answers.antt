@@ -10,7 +10,7 @@ use Rattle.pm_trace.proofs.ScriptsLemmas.{memory_exit}
 use Rattle.pm_replay.specs.Within.{RanScript}
 use Rattle.pm_replay.proofs.run.run_begun.Goals as goal
 
--- memory was wanted
+-- memory ran out
 pub returns-in-Err-clause-ran : goal.returns-in-Err-clause-ran
 returns-in-Err-clause-ran g c = inl (c.refuse.ensures, refl, refl)
 

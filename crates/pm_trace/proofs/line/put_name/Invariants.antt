@@ -1,7 +1,7 @@
 use Rattle.std.proofs.Common.{◌≡◌, ◌+◌, ◌≤◌, ◌++◌, drop}
 use Rattle.pm_trace.proofs.line.put_name.Given as goal
 
--- the bytes that are put so far stand before what stood there
+-- the bytes that were written so far are before those that were there
 abbrev pub invariant-loop-left : goal.invariant-loop-left
 invariant-loop-left g l = record {
   left : l.left ≤ g.row.N;

@@ -5,7 +5,7 @@ use Rattle.pm_trace.specs.declared.step_text.TheConstants.{ROOM}
 use Rattle.pm_trace.specs.StepText.{lines_of_step}
 use Rattle.pm_trace.proofs.step_text.put_commands.Given as goal
 
--- the lines that are put so far stand before what stood there
+-- the lines that were written so far are before those that were there
 abbrev pub invariant-loop-left : goal.invariant-loop-left
 invariant-loop-left l = record {
   left : l.left ≤ length l.commands;
