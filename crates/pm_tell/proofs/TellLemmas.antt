@@ -1,5 +1,5 @@
 -- What each master is told, and how much that is.
-use Rattle.std.proofs.Common.{◌≡◌, ℕ, ◌+◌, ◌*◌, ◌<◌, ◌≤◌, ◌==◌, ◌&&◌, Bool, true, false, if◌then◌else◌, List, [], ◌∷◌, ◌++◌, length, length-append, drop, slice_get, map, Option, Some, None, refl, sym, ◌∙◌, ap, subst, arith, append_assoc, zero, suc}
+use Rattle.std.proofs.Common.{◌≡◌, ℕ, ◌+◌, ◌*◌, ◌<◌, ◌≤◌, ◌==◌, Bool, true, false, if◌then◌else◌, List, [], ◌∷◌, ◌++◌, length, length-append, drop, slice_get, map, Option, Some, None, refl, sym, ◌∙◌, ap, subst, arith, append_assoc, zero, suc}
 use Rattle.std.specs.Prelude.{flat_map}
 use Rattle.std.specs.Option.{option_map_or}
 use Rattle.std.proofs.lemmas.List.{length-map}
@@ -211,11 +211,6 @@ pub kept_told : (served : Option Served) (changes : List Talk) (book : State) �
 kept_told None changes book = refl
 kept_told (Some served) changes book =
     kept_at_told (master_place served.master book) (own_note (response_of served.verdict) (ack_of served.call) (node_of served.call)) changes book
-
--- a master that is awake wakes where it was asleep
-pub wakes_awake : (woken awake : Bool) → awake ≡ true → (woken && awake) ≡ woken
-wakes_awake true awake is = is
-wakes_awake false awake is = refl
 
 -- the callbacks grow by no more than what waits
 pub length-callbacks : (woken : Bool) (notes : MasterNotes) (call : Waiting → Callback) (items new : List Callback) → new ≡ items ++ map call (told_if woken notes) → length new ≤ length items + length (waiting_in notes)
