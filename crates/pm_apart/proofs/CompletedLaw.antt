@@ -20,7 +20,7 @@ use Rattle.pm_clock_tree.specs.declared.clock_tree.ClockChange.{ClockChange}
 use Rattle.pm_clock_tree.specs.declared.calls.ClockCall.{ClockCall}
 use Rattle.pm_clock_tree.specs.Served.{response as served}
 use Rattle.pm_clock_tree.specs.Tree.{Seen, Tree}
-use Rattle.pm_clocks.specs.Clocked.{answered as with_clocks, clock_answer, made, view_of}
+use Rattle.pm_clocks.specs.Clocked.{answered as with_clocks, clock_answer, made, view_of, tree_after_core}
 use Rattle.pm_split.specs.Split.{Note, call, called_note, noted_answer}
 use Rattle.pm_split.specs.Split.Note.{Called, Clock, NoTask, Fired}
 use Rattle.pm_run.specs.Run.{Setup}
@@ -29,7 +29,7 @@ use Rattle.pm_trace.specs.declared.step.StepLine.{StepLine}
 use Rattle.pm_trace.specs.declared.step.StepLine.TheVariants as told
 use Rattle.pm_trace.specs.Notes.{note_words}
 use Rattle.pm_trace.specs.Step.{answer_line, late_line, notices_of, step_words, told_lines}
-use Rattle.pm_drive.specs.Clocks.{clock_note, clock_notes, clocked, clocked_by, clocked_core, clocked_cores, clocked_line, first_tree, tree_after_core, tree_along, turned}
+use Rattle.pm_drive.specs.Clocks.{clock_note, clock_notes, clocked, clocked_by, clocked_core, clocked_cores, clocked_line, first_tree, tree_along, turned}
 use Rattle.pm_drive.specs.Drive.{Driven, Given}
 use Rattle.pm_drive.specs.Completed.{completed, completed_by, completed_core, completed_cores, completed_in, completed_line}
 use Rattle.pm_drive.specs.Tasks.{fired_note, key_notes, refusal_notes, task_notes}

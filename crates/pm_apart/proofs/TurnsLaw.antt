@@ -35,7 +35,8 @@ use Rattle.pm_trace.specs.declared.step.StepLine.{StepLine}
 use Rattle.pm_trace.specs.declared.step.StepLine.TheVariants as told
 use Rattle.pm_trace.specs.Line.{numbers}
 use Rattle.pm_trace.specs.Step.{command_name, step_words}
-use Rattle.pm_drive.specs.Clocks.{clock_note, clock_notes, clocked_by, clocked_cores, clocked_line, first_tree, tree_after_core, tree_along}
+use Rattle.pm_clocks.specs.Clocked.{tree_after_core}
+use Rattle.pm_drive.specs.Clocks.{clock_note, clock_notes, clocked_by, clocked_cores, clocked_line, first_tree, tree_along}
 use Rattle.pm_drive.specs.Drive.{Driven, Given, answers_after, drive, drive_line, driven, first_answers, give, later_answers, until}
 use Rattle.pm_drive.specs.Completed.{completed_by, completed_cores, completed_in, completed_line}
 use Rattle.pm_drive.specs.Tasks.{task_notes}

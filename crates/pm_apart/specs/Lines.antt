@@ -7,6 +7,7 @@ use Rattle.pm_base.specs.declared.names.Unit.{Unit}
 use Rattle.pm_base.specs.declared.names.Unit.TheVariants.{Node, Line}
 use Rattle.pm_topology.specs.declared.topology.Topology.{Topology}
 use Rattle.pm_topology.specs.Units.{same_unit}
+use Rattle.pm_reach.specs.Membership.{unit_number}
 use Rattle.pm_core.specs.declared.outbox.Done.{Done}
 use Rattle.pm_state.specs.Load.{load_of}
 use Rattle.pm_clock_tree.specs.declared.clock_tree.ClockEnd.{ClockEnd}
@@ -108,17 +109,12 @@ abbrev pub is_named : Unit → Word → Bool
 is_named (Node node) word = is_name (codes "proc") word || (is_name (codes "slave") word || is_name (codes "power") word)
 is_named (Line line) word = is_name (codes "line") word
 
--- the number of a unit
-abbrev pub number_of : Unit → ℕ
-number_of (Node node) = node.0
-number_of (Line line) = line.0
-
 -- three words with which a line about the unit begins: of a command on it, behind the number of the script line, or
 -- of its closing line
 abbrev pub begins_about : Unit → Word → Word → Word → Bool
-begins_about unit (word.Number n) name number = is_command unit name && is_number (number_of unit) number
+begins_about unit (word.Number n) name number = is_command unit name && is_number (unit_number unit) number
 begins_about unit (word.Name first) name number =
-    bytes_eq first (codes "end") && (is_named unit name && is_number (number_of unit) number)
+    bytes_eq first (codes "end") && (is_named unit name && is_number (unit_number unit) number)
 begins_about unit _ name number = false
 
 -- the line of these words is about the unit

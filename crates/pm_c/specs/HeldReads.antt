@@ -1,20 +1,12 @@
 -- The reads of a controller, in the numbers of C.
 use Rattle.std.specs.Prelude.{◌≡◌, ℕ, Bool, Some, None, option_map}
 use Rattle.pm_base.specs.declared.events.Message.{Message}
-use Rattle.pm_base.specs.declared.names.Mode.{Mode}
-use Rattle.pm_base.specs.declared.names.Mode.TheVariants.{Off, Active, Asleep, Suspending}
 use Rattle.pm_base.specs.declared.names.NodeId.{NodeId}
 use Rattle.pm_controller.specs.declared.status.NodeStatus.{NodeStatus}
 use Rattle.pm_controller.specs.Beyond.{is_beyond}
 use Rattle.pm_controller.specs.Controls.{Controls}
 use Rattle.pm_controller.specs.Status.{status_of}
 use Rattle.pm_c.specs.declared.held_reads.StatusWords.{StatusWords}
-
-abbrev pub mode_number : Mode → ℕ
-mode_number Off = 0
-mode_number Active = 1
-mode_number Asleep = 2
-mode_number Suspending = 3
 
 -- the status of a node in three words
 abbrev pub status_words : NodeStatus → StatusWords

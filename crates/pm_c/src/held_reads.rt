@@ -1,14 +1,16 @@
 //! Reads of a controller. None changes it.
 
 ghost use Rattle.std.specs.Prelude.{◌≡◌, ◌<◌, [], ◌∷◌, Some, None, option_map};
+ghost use Rattle.pm_procs.specs.Modes.{mode_number};
 ghost use Rattle.pm_controller.specs.Controls.{is_settled, mode_of, value_of};
 ghost use Rattle.pm_slot.specs.Held.{Holds, inside};
 ghost use Rattle.pm_handle.specs.Handle.{IsOneOf};
-ghost use Rattle.pm_c.specs.HeldReads.{HasNoStatus, IsBeyond, IsStatus, mode_number, status_words};
+ghost use Rattle.pm_c.specs.HeldReads.{HasNoStatus, IsBeyond, IsStatus, status_words};
 
-use pm_base::{Message, Mode, NodeId};
+use pm_base::{Message, NodeId};
 use pm_controller::NodeStatus;
 use pm_handle::answers::{CLOSED, DONE, NO_MEMORY, NO_NODE};
+use pm_procs::mode_number;
 use pm_slot::{Held, Slot};
 use std::alloc::Global;
 
@@ -116,18 +118,6 @@ fn mode_held(held: &Held, proc: NodeId, mode: &mut u32) -> u32
             DONE
         }
         None => NO_NODE,
-    }
-}
-
-/// The number of a mode in `pmu.h`, as in the closing table of a run.
-fn mode_number(mode: Mode) -> u32
-    ensures { result ≡ mode_number mode }
-{
-    match mode {
-        Mode::Off => 0,
-        Mode::Active => 1,
-        Mode::Asleep => 2,
-        Mode::Suspending => 3,
     }
 }
 

@@ -2,10 +2,11 @@
 //! stored only with `DONE`; `pmu_text` writes with `NO_ROOM` too.
 
 ghost use Rattle.std.specs.Prelude.{◌≡◌, ◌≤◌, ◌<◌, [], ◌∷◌, Some, None, take, length, option_map};
+ghost use Rattle.pm_procs.specs.Modes.{mode_number};
 ghost use Rattle.pm_controller.specs.Controls.{is_settled, mode_of, text_of, value_of};
 ghost use Rattle.pm_slot.specs.Held.{Holds, inside};
 ghost use Rattle.pm_handle.specs.Handle.{IsOneOf, IsOver, IsWaiting};
-ghost use Rattle.pm_c.specs.HeldReads.{HasNoStatus, IsBeyond, IsStatus, mode_number};
+ghost use Rattle.pm_c.specs.HeldReads.{HasNoStatus, IsBeyond, IsStatus};
 
 use crate::held_reads::{
     StatusWords, read_beyond, read_mode, read_settled, read_status, read_value,

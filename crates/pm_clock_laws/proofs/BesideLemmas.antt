@@ -55,11 +55,11 @@ use Rattle.pm_clock_tree.specs.Laws.{RunByTheirParents, StandAfterSteps}
 use Rattle.pm_clock_tree.specs.Served.{changed, changed_at, refused, response, served, with_setting}
 use Rattle.pm_clock_tree.specs.Table.{clocks, place_of as clock_place, roots}
 use Rattle.pm_clock_tree.specs.Tree.{HasAllPlaces, Seen, Tree}
-use Rattle.pm_clocks.specs.Clocked.{answered, clock_answer, is_on, is_slave, made, node_of, tree_after, view_of}
+use Rattle.pm_clocks.specs.Clocked.{answered, clock_answer, is_on, is_slave, made, node_of, tree_after, view_of, tree_after_core}
 use Rattle.pm_clock_laws.specs.Column.{column, stays}
 use Rattle.pm_clock_laws.specs.Reach.{IsClockBeyond}
 use Rattle.pm_clock_laws.specs.Reach.IsClockWithin.{root as root_within, used as used_within, driven as driven_within}
-use Rattle.pm_clock_laws.specs.Same.{IsTreeOver, SameClocks, tree_after_core, tree_along}
+use Rattle.pm_clock_laws.specs.Same.{IsTreeOver, SameClocks, tree_along}
 use Rattle.pm_clock_laws.proofs.ColumnLemmas.{followed_alike, served_alike, served_barred, served_other}
 use Rattle.pm_clock_laws.proofs.RunsLemmas.{HaveSame, responses_alike}
 

@@ -6,7 +6,7 @@ use Rattle.pm_laws.specs.Border.{Border}
 use Rattle.pm_clock_tree.specs.declared.table.ClockDef.{ClockDef}
 use Rattle.pm_clock_tree.specs.Table.{clocks}
 use Rattle.pm_clock_tree.specs.Tree.{HasAllPlaces, Tree}
-use Rattle.pm_clocks.specs.Clocked.{StandsOver, tree_after}
+use Rattle.pm_clocks.specs.Clocked.{StandsOver, tree_after_core}
 use Rattle.pm_clock_laws.specs.Column.{column}
 use Rattle.pm_clock_laws.specs.Reach.{IsClockBeyond}
 
@@ -23,9 +23,6 @@ pub record SameClocks (fixed : Fixed) (border : Border) (a b : State) (s t : Tre
       → column k s ≡ column k t
 
 -- the tree after core steps: the accepted calls on clocks are done in order, and enables are dropped
-abbrev pub tree_after_core : Core → Tree → Tree
-tree_after_core core tree = tree_after core.event core.outputs.answer core.after tree
-
 abbrev pub tree_along : List Core → Tree → Tree
 tree_along [] tree = tree
 tree_along (core ∷ cores) tree = tree_along cores (tree_after_core core tree)

@@ -19,6 +19,7 @@ use Rattle.pm_state.specs.Values.{value}
 use Rattle.pm_core.specs.declared.replies.Answer.{Answer}
 use Rattle.pm_core.specs.declared.replies.Answer.TheVariants.{Reply}
 use Rattle.pm_core.specs.Step.{effect, outputs}
+use Rattle.pm_run.specs.Run.{Core}
 use Rattle.pm_clock_tree.specs.declared.calls.ClockCall.{ClockCall}
 use Rattle.pm_clock_tree.specs.Calls.{clock_call}
 use Rattle.pm_clock_tree.specs.Followed.{Stands, after_step}
@@ -69,6 +70,10 @@ made event answer = None
 -- the clock tree after a core event, by the event, the book's answer and the book after it
 abbrev pub tree_after : Event → Answer → State → Tree → Tree
 tree_after event answer book tree = after_step (view_of book) (made event answer) tree
+
+-- the tree after a core step: the book's own answer says whether a call on a clock was made. No device occurs in it
+abbrev pub tree_after_core : Core → Tree → Tree
+tree_after_core core tree = tree_after core.event core.outputs.answer core.after tree
 
 -- a reply with this response in place of its own; any other answer stays
 abbrev pub with_response : Response → Answer → Answer

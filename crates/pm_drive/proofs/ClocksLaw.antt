@@ -8,7 +8,8 @@ use Rattle.pm_board.specs.Board.{Standing, board_after}
 use Rattle.pm_state.specs.State.{State}
 use Rattle.pm_apply.specs.Part.{Kept, orders_of}
 use Rattle.pm_drive.specs.Boards.{ClocksLeaveRun, event_of}
-use Rattle.pm_drive.specs.Clocks.{clocked_by, clocked_core, clocked_cores, clocked_line, last_tree, tree_after_core, tree_along}
+use Rattle.pm_clocks.specs.Clocked.{tree_after_core}
+use Rattle.pm_drive.specs.Clocks.{clocked_by, clocked_core, clocked_cores, clocked_line, last_tree, tree_along}
 use Rattle.pm_drive.specs.Drive.{Driven, Given, acts, last_book, last_kept, orders_in_cores, rigs, until}
 use Rattle.pm_drive.specs.Completed.{last_board}
 use Rattle.pm_drive.specs.Lowered.{given_in}

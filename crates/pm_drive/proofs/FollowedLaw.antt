@@ -15,9 +15,9 @@ use Rattle.pm_clock_tree.specs.Laws.{RunByTheirParents, StandAfterSteps}
 use Rattle.pm_clock_tree.specs.Served.{changed, changed_at, refused, served, with_divider, with_index, with_setting}
 use Rattle.pm_clock_tree.specs.Table.{clock_count, place_of, roots}
 use Rattle.pm_clock_tree.specs.Tree.{HasAllPlaces, Seen, Tree, first_setting, loaded}
-use Rattle.pm_clocks.specs.Clocked.{made, masters_of, view_of}
+use Rattle.pm_clocks.specs.Clocked.{made, masters_of, view_of, tree_after_core}
 use Rattle.pm_run.specs.Run.{Core, Setup}
-use Rattle.pm_drive.specs.Clocks.{first_tree, tree_after_core}
+use Rattle.pm_drive.specs.Clocks.{first_tree}
 use Rattle.pm_drive.specs.Drive.{Driven, Given}
 use Rattle.pm_drive.specs.Followed.{ClocksStand, IsTreeOf, StandAlong}
 use Rattle.pm_drive.specs.Lowered.{given_in}

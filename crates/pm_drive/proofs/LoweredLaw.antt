@@ -28,7 +28,8 @@ use Rattle.pm_record.specs.Record.{at_zero}
 use Rattle.pm_trace.specs.declared.line.Word.{Word}
 use Rattle.pm_trace.specs.Notes.{note_words}
 use Rattle.pm_drive.specs.Drive.{Driven, Given, acts, acts_of, answers_after, drive, drive_line, driven, first_answers, give, kept_after, last_book, last_kept, later_answers, orders_in_cores, rigs}
-use Rattle.pm_drive.specs.Clocks.{clock_note, clock_notes, clocked_by, clocked_core, clocked_cores, first_tree, last_tree, table_text, tree_after_core, tree_along, turned}
+use Rattle.pm_clocks.specs.Clocked.{tree_after_core}
+use Rattle.pm_drive.specs.Clocks.{clock_note, clock_notes, clocked_by, clocked_core, clocked_cores, first_tree, last_tree, table_text, tree_along, turned}
 use Rattle.pm_drive.specs.Completed.{completed_by, completed_core, completed_cores, last_board}
 use Rattle.pm_drive.specs.Tasks.{task_notes}
 use Rattle.pm_drive.specs.Lowered.{HaveSameSteps, but_clocks, given_in, lowered_script, told_but_clocks, told_by, told_in}

@@ -20,7 +20,7 @@ use Rattle.pm_psci.specs.Refusal.{refusal}
 use Rattle.pm_clock_tree.specs.Calls.{clock_call}
 use Rattle.pm_clock_tree.specs.declared.calls.ClockCall.{ClockCall}
 use Rattle.pm_clock_tree.specs.Tree.{Tree}
-use Rattle.pm_clocks.specs.Clocked.{answered, clock_answer, made, view_of}
+use Rattle.pm_clocks.specs.Clocked.{answered, clock_answer, made, view_of, tree_after_core}
 use Rattle.pm_modules.specs.Ranges.{Ranged, said_by}
 use Rattle.pm_state.specs.State.{State}
 use Rattle.pm_core.specs.Step.{effect, outputs}
@@ -28,7 +28,7 @@ use Rattle.pm_core.specs.declared.replies.Answer.{Answer}
 use Rattle.pm_core.specs.declared.replies.Answer.TheVariants.{Ack, Drop, Reply, Silent}
 use Rattle.pm_run.specs.Run.{core_of, cores_of}
 use Rattle.pm_apply.specs.Part.{Kept, Part, part_of}
-use Rattle.pm_drive.specs.Clocks.{clocked_core, clocked_cores, tree_after_core}
+use Rattle.pm_drive.specs.Clocks.{clocked_core, clocked_cores}
 use Rattle.pm_drive.specs.Drive.{Given, first_answers, give, later_answers}
 use Rattle.pm_drive.specs.Completed.{completed, completed_core, completed_cores}
 

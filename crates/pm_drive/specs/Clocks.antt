@@ -8,10 +8,10 @@ use Rattle.pm_clock_tree.specs.declared.clock_tree.ClockChange.{ClockChange}
 use Rattle.pm_clock_tree.specs.declared.clock_tree.ClockEnd.{ClockEnd}
 use Rattle.pm_clock_tree.specs.Told.{changes, ends}
 use Rattle.pm_clock_tree.specs.Tree.{Tree, running}
-use Rattle.pm_clocks.specs.Clocked.{clock_answer, tree_after, tree_of}
+use Rattle.pm_clocks.specs.Clocked.{clock_answer, tree_after_core, tree_of}
 use Rattle.pm_split.specs.Split.{Note}
 use Rattle.pm_split.specs.Split.Note.{Clock}
-use Rattle.pm_run.specs.Run.{Core, Setup}
+use Rattle.pm_run.specs.Run.{Setup}
 use Rattle.pm_apply.specs.Part.{Kept, Part}
 use Rattle.pm_trace.specs.Closing.{clock_end_line, closing_text}
 use Rattle.pm_drive.specs.Drive.{Driven, Given}
@@ -25,10 +25,6 @@ clocked_part event book tree part = record part { answer = clock_answer event pa
 
 abbrev pub clocked_core : Tree → Given → Given
 clocked_core tree g = record g { part = clocked_part g.core.event g.core.after tree g.part }
-
--- the tree after a core step: the book's own answer says whether a call on a clock was made. No device occurs in it
-abbrev pub tree_after_core : Core → Tree → Tree
-tree_after_core core tree = tree_after core.event core.outputs.answer core.after tree
 
 -- core steps one after another, each of which finds the tree that the one before leaves
 abbrev pub clocked_cores : Tree → List Given → List Given

@@ -3,9 +3,9 @@ use Rattle.std.specs.Prelude.{◌≡◌, ◌↔◌, ⊤, ℕ, true, List, [], �
 use Rattle.pm_state.specs.Load.{load_of}
 use Rattle.pm_state.specs.State.{State}
 use Rattle.pm_clock_tree.specs.Tree.{HasAllPlaces, Runs, Tree, runs}
-use Rattle.pm_clocks.specs.Clocked.{StandsOver}
+use Rattle.pm_clocks.specs.Clocked.{StandsOver, tree_after_core}
 use Rattle.pm_run.specs.Run.{Setup}
-use Rattle.pm_drive.specs.Clocks.{first_tree, tree_after_core}
+use Rattle.pm_drive.specs.Clocks.{first_tree}
 use Rattle.pm_drive.specs.Drive.{Driven, Given}
 use Rattle.pm_drive.specs.Lowered.{given_in}
 

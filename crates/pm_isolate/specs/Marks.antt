@@ -1,6 +1,5 @@
 -- The marks of the units: for each unit whether it was found to differ. Some of them are found anew, place by place.
-use Rattle.std.specs.Prelude.{ℕ, ◌+◌, ◌==◌, Bool, false, if◌then◌else◌, List, [], ◌∷◌, fold, slice_get, Option, None, Some, is_some}
-use Rattle.std.specs.List.{list_any}
+use Rattle.std.specs.Prelude.{ℕ, ◌+◌, Bool, false, if◌then◌else◌, List, [], ◌∷◌, fold, slice_get, Option, None, Some, is_some}
 use Rattle.pm_base.specs.declared.names.Unit.{Unit}
 use Rattle.pm_base.specs.declared.names.Unit.TheVariants.{Node, Line}
 use Rattle.pm_topology.specs.declared.topology.Topology.{Topology}
@@ -22,10 +21,6 @@ renewed_at f marks place = renewed f place (slice_get marks place) marks
 -- the marks at these places are found anew, one after another
 abbrev pub renewed_along : (Unit → Bool → Bool) → List ℕ → Marks → Marks
 renewed_along f places marks = fold (renewed_at f) marks places
-
--- one of these places is this one
-abbrev pub has_place : List ℕ → ℕ → Bool
-has_place places k = list_any (λ j. j == k) places
 
 -- a unit is a processor
 abbrev pub is_proc : Topology → Unit → Bool

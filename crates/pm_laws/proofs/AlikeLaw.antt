@@ -1,5 +1,6 @@
 -- Two lines whose core steps are beside one another agree, list by list over the core steps of each.
 use Rattle.std.proofs.Common.{◌≡◌, ◌==◌, Bool, true, false, not, ◌&&◌, if◌then◌else◌, List, [], ◌∷◌, ◌++◌, flat_map, length, refl, ap, sym, ◌∙◌, subst}
+use Rattle.std.specs.Prelude.{option_to_list}
 use Rattle.pm_laws.proofs.Common.{Agree, AreObjects, Border, Both, Event, Fixed, Ipi, IsWellFormed, NodeId, Pass, State, border_of, none_within, place_of}
 use Rattle.pm_base.proofs.Booleans.{equal, pair_of, both as both_pass}
 use Rattle.pm_ipi.specs.Calls.{call_of}
@@ -8,7 +9,7 @@ use Rattle.pm_run.specs.Run.{Core, IsBookOf, Line, Setup, Stand, fixed_of, line_
 use Rattle.pm_laws.specs.Answers.{is_dropped, message_beyond, names_beyond, sender_beyond}
 use Rattle.pm_laws.specs.Beside.{AreBeside, IsOwn, no_core, both_cores, left_core, rest_core}
 use Rattle.pm_laws.specs.Quiet.{quiet, quiet_event}
-use Rattle.pm_laws.specs.Told.{SameTold, TellsNothing, answers_in, asked_in, callbacks_in, drops_in, ends_in, is_beyond_all, is_others, late_in, listed, moves_in, pulse_in, starts_in}
+use Rattle.pm_laws.specs.Told.{SameTold, TellsNothing, answers_in, asked_in, callbacks_in, drops_in, ends_in, is_beyond_all, is_others, late_in, moves_in, pulse_in, starts_in}
 use Rattle.pm_laws.specs.Values.{IsModeAlike, IsValueAlike}
 use Rattle.pm_laws.specs.Worlds.{AreQuietBoxes, AreWorldsAlike, AreWorldsBeside, IsLineAlike, IsLineBeside}
 use Rattle.pm_laws.proofs.BesideLaw.{CoreLaws, line_beside, lines_beside}
@@ -125,8 +126,8 @@ module _ (c : Setup) (m : NodeId) where
         modes = subst Q is.fixed (books.modes m x.after.book y.after.book) beside.agree;
         moves = told (moves_in c.object c.topology border) (λ x y is. is.moves) (λ x is. is.moves) a b x.cores y.cores beside.cores;
         starts = told (starts_in c.object c.topology border) (λ x y is. is.starts) (λ x is. is.starts) a b x.cores y.cores beside.cores;
-        pulses = told (λ core. listed (pulse_in c.topology border core)) (λ x y is. ap listed is.pulse) (λ x is. ap listed is.pulse) a b x.cores y.cores beside.cores;
-        asked = told (λ core. listed (asked_in border core)) (λ x y is. ap listed is.asked) (λ x is. ap listed is.asked) a b x.cores y.cores beside.cores;
+        pulses = told (λ core. option_to_list (pulse_in c.topology border core)) (λ x y is. ap option_to_list is.pulse) (λ x is. ap option_to_list is.pulse) a b x.cores y.cores beside.cores;
+        asked = told (λ core. option_to_list (asked_in border core)) (λ x y is. ap option_to_list is.asked) (λ x is. ap option_to_list is.asked) a b x.cores y.cores beside.cores;
         ends = told (ends_in border) (λ x y is. is.ends) (λ x is. is.ends) a b x.cores y.cores beside.cores;
         late = told (late_in border) (λ x y is. is.late) (λ x is. is.late) a b x.cores y.cores beside.cores;
         callbacks = told (callbacks_in c.object border) (λ x y is. is.callbacks) (λ x is. is.callbacks) a b x.cores y.cores beside.cores;

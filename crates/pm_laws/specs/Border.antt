@@ -6,8 +6,6 @@ use Rattle.pm_base.specs.declared.names.NodeId.{NodeId}
 use Rattle.pm_base.specs.declared.names.Unit.{Unit}
 use Rattle.pm_base.specs.declared.names.Unit.TheVariants.{Node, Line}
 use Rattle.pm_object.specs.Grammar.{IsObject}
-use Rattle.pm_object.specs.declared.attached.Attached.{Attached}
-use Rattle.pm_object.specs.declared.attached.Content.TheVariants as content
 use Rattle.pm_object.specs.declared.object.MasterRec.{MasterRec}
 use Rattle.pm_object.specs.declared.object.Object.{Object}
 use Rattle.pm_rows.specs.declared.row.Pair.{Pair}
@@ -31,10 +29,6 @@ use Rattle.pm_reach.specs.Leads.{targets}
 -- each object of a run is well formed
 abbrev pub AreObjects : Fixed → Type 0
 AreObjects fixed = Each IsObject (objects_of fixed)
-
--- an attached object that can be read is well formed
-abbrev pub HoldsObject : Attached → Type 0
-HoldsObject attached = (object : Object) → attached.content ≡ content.Object object → IsObject object
 
 -- the masters, slaves, power nodes and reset lines that are beyond, by their places; the slaves that some master
 -- beyond may use; the nodes that are beyond, by their numbers; and whether any master is beyond

@@ -1,5 +1,5 @@
 -- The visible part of a core step, and two core steps that tell the same beyond a border.
-use Rattle.std.specs.Prelude.{◌≡◌, Bool, true, false, not, ◌&&◌, ◌==◌, List, [], ◌∷◌, Option, Some, None, if◌then◌else◌}
+use Rattle.std.specs.Prelude.{◌≡◌, Bool, true, false, not, ◌&&◌, ◌==◌, List, [], ◌∷◌, Option, None, if◌then◌else◌}
 use Rattle.pm_base.specs.declared.events.Event.{Event}
 use Rattle.pm_base.specs.declared.events.Event.TheVariants.{Ipi}
 use Rattle.pm_base.specs.declared.names.LineId.{LineId}
@@ -98,8 +98,3 @@ drops_in object border m core =
 abbrev pub answers_in : Object → Topology → Border → NodeId → Core → List (Event × Answer)
 answers_in object t border m core =
     if is_beyond_all object t border m core.event then (core.event, core.outputs.answer) ∷ [] else []
-
--- an empty list, or the list of this alone
-abbrev pub listed : {X : Type 0} → Option X → List X
-listed None = []
-listed (Some x) = x ∷ []

@@ -1,6 +1,6 @@
 -- Two runs side by side, line by line, of which the quiet one lacks the messages of a master. Beyond the reach of the
 -- master they can't be told apart.
-use Rattle.std.specs.Prelude.{◌≡◌, ◌==◌, ℕ, ⊤, if◌then◌else◌, List, [], ◌∷◌, flat_map, Option, Some, None}
+use Rattle.std.specs.Prelude.{◌≡◌, ◌==◌, ℕ, ⊤, if◌then◌else◌, List, [], ◌∷◌, flat_map, Option, Some, None, option_to_list}
 use Rattle.pm_base.specs.declared.events.Event.{Event}
 use Rattle.pm_base.specs.declared.names.NodeId.{NodeId}
 use Rattle.pm_ipi.specs.Mail.{emptied}
@@ -15,7 +15,7 @@ use Rattle.pm_laws.specs.Border.{Border}
 use Rattle.pm_laws.specs.Both.{Both}
 use Rattle.pm_laws.specs.Quiet.{quiet}
 use Rattle.pm_laws.specs.ReachBorder.{border_of}
-use Rattle.pm_laws.specs.Told.{answers_in, asked_in, callbacks_in, drops_in, ends_in, late_in, listed, moves_in, pulse_in, starts_in}
+use Rattle.pm_laws.specs.Told.{answers_in, asked_in, callbacks_in, drops_in, ends_in, late_in, moves_in, pulse_in, starts_in}
 use Rattle.pm_laws.specs.Values.{IsModeAlike, IsValueAlike}
 
 -- ---- the law: the core steps are beside one another
@@ -79,10 +79,10 @@ pub record IsAlikeBeyond (c : Setup) (m : NodeId) (border : Border) (x y : Line)
   -- in both the same units move, the same processors start at the same addresses, and the same reset lines are pulsed
   pub moves : of_line (moves_in c.object c.topology border) x ≡ of_line (moves_in c.object c.topology border) y
   pub starts : of_line (starts_in c.object c.topology border) x ≡ of_line (starts_in c.object c.topology border) y
-  pub pulses : of_line (λ core. listed (pulse_in c.topology border core)) x ≡ of_line (λ core. listed (pulse_in c.topology border core)) y
+  pub pulses : of_line (λ core. option_to_list (pulse_in c.topology border core)) x ≡ of_line (λ core. option_to_list (pulse_in c.topology border core)) y
   -- the same requests to masters beyond are made and end, with the same late replies, and the same callbacks are made
   -- to them, except those about nodes within
-  pub asked : of_line (λ core. listed (asked_in border core)) x ≡ of_line (λ core. listed (asked_in border core)) y
+  pub asked : of_line (λ core. option_to_list (asked_in border core)) x ≡ of_line (λ core. option_to_list (asked_in border core)) y
   pub ends : of_line (ends_in border) x ≡ of_line (ends_in border) y
   pub late : of_line (late_in border) x ≡ of_line (late_in border) y
   pub callbacks : of_line (callbacks_in c.object border) x ≡ of_line (callbacks_in c.object border) y

@@ -8,13 +8,14 @@ ghost use Rattle.pm_object.specs.Grammar.{IsObject};
 ghost use Rattle.pm_object.specs.declared.attached.Attached.{Attached};
 ghost use Rattle.pm_object.specs.declared.object.Object.{Object};
 ghost use Rattle.pm_topology.specs.declared.topology.Topology.{Topology};
+ghost use Rattle.pm_block.specs.Pieces.{IsFormed};
 ghost use Rattle.pm_state.specs.Load.{load_of};
 ghost use Rattle.pm_state.specs.State.{State};
 ghost use Rattle.pm_core.specs.Outbox.{HasRoomFor, Holds, KeepsRoom};
 ghost use Rattle.pm_core.specs.Step.{effect, outputs};
 ghost use Rattle.pm_laws.specs.Agree.{Agree};
 ghost use Rattle.pm_laws.specs.Beside.{IsOwn};
-ghost use Rattle.pm_laws.specs.Border.{AreObjects, HoldsObject};
+ghost use Rattle.pm_laws.specs.Border.{AreObjects};
 ghost use Rattle.pm_laws.specs.Left.{border_in, stepped};
 ghost use Rattle.pm_laws.specs.Quiet.{quiet_event};
 ghost use Rattle.pm_laws.specs.Told.{SameTold, TellsNothing};
@@ -45,7 +46,7 @@ pub fn quiet_event<'e>(m: NodeId, event: &'e Event, pass: &'e Event) -> &'e Even
 /// them side by side.
 pub fn loaded_objects_are_objects()
     ensures load { (object : Object) (attached : List Attached) (topology : Topology) → IsObject object
-        → Each HoldsObject attached → AreObjects (load_of object attached topology).fixed }
+        → Each IsFormed attached → AreObjects (load_of object attached topology).fixed }
     ensures step { (event : Event) (book : State) → AreObjects book.fixed → AreObjects (effect event book).fixed }
 {}
 
