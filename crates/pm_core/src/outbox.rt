@@ -21,8 +21,9 @@ pub struct Done {
 }
 
 /// What a step puts out: the units whose value it changed, in the order of the units, whether a processor went to a mode,
-/// even to the one that it had, the reset line that it pulses, the processors that it started, by number, the late replies and the callbacks to masters that wait for
-/// them, and the answer. The commands that are done for it are put in by whoever drives the device.
+/// even to the one that it had, the reset line that it pulses, the processors that it started, by number, the late
+/// replies and the callbacks to masters that wait for them, and the answer. The commands that are done for it are put in
+/// by whoever drives the device.
 #[derive(Drop)]
 pub struct Outbox {
     pub moved: BoundedList<Unit>,

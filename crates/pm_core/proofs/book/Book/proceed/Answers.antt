@@ -97,8 +97,10 @@ bring-requires-clause-still c = λ none p within.
     let old = c.self.inside.tables in
     let steps = stages c.args.event.now old in
     let is = c.advance.ensures.book in
+    let written = c.advance.ensures.written ∙ ap (written_along steps old) c.clear.ensures in
     let leaves : LeavesProcs old steps =
-    none_written steps old c.clear.new.changes (advance-requires-clause-procs _) (sym (ap (λ (w : Written). w.procs.list) c.advance.ensures.written) ∙ none)
+    none_written steps old (unwritten c.self.inside.changes) (c.self.invariant.4.procs ∙ sym c.self.invariant.0.sound.procs.each)
+    (sym (ap (λ (w : Written). w.procs.list) written) ∙ none)
     in
     c.advance.ensures.along.downs p (omega (arith, within, ap (λ (b : State). length b.fixed.topology.procs) is))
     ∙ (leaves.downs p
