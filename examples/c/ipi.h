@@ -2,7 +2,7 @@
  *
  * Firmware of the chip sends a message to the platform management unit by writing its words into a buffer and then a bit
  * into a register, and reads the answer from another buffer. Compiled for the host it does the same by the two functions
- * below, in place of its own reads and writes of the bus. docs/CLIENTS.md has the addresses. */
+ * below, in place of its own reads and writes of the bus. docs/CLIENTS.md says what each register does. */
 #ifndef IPI_H
 #define IPI_H
 
