@@ -54,7 +54,7 @@ def number_of_node(word: str) -> int:
 
 def translated(name: str, room: str) -> tuple[bytes, str]:
     """A file in numbers: its content, and a file in the folder `room` that has it, with no outage that ends by itself: these
-    don't count where there is no device."""
+    don't count if there is no device."""
     content = to_numbers.in_numbers(read_file(name), name)
     path = os.path.join(room, os.path.basename(name) or "file")
     write_file(path, outages.plain(content))

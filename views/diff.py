@@ -52,7 +52,7 @@ class Subject(NamedTuple):
 
 
 class Row(NamedTuple):
-    """What differs in a step: the two texts, empty where there is nothing."""
+    """What differs in a step: the two texts, empty if there is nothing."""
 
     subject: Subject
     with_it: str
@@ -158,7 +158,7 @@ def joined(words: Sequence[Word], shown: Sequence[str], beside: Sequence[str]) -
 
 
 def remark_of(words: Sequence[Word], others: Sequence[Word]) -> str:
-    """What became of a message that succeeds without the messages of the master, where it doesn't with them."""
+    """What became of a message that succeeds without the messages of the master, and doesn't with them."""
     statuses = list(map(status_of, words))
     given = list(map(status_of, others))
     if 0 not in given or 0 in statuses:

@@ -1,7 +1,7 @@
 """What is expected of a run: clauses in the comments of a script, or in a file beside it.
 
 A comment `# expect CLAUSE, CLAUSE; a note` speaks of its own line; alone in its line, of the last line above it that has
-an event. A file SCRIPT.expect has lines `LINE CLAUSE, ..`, where LINE is a number of a line or `end`. The words of a
+an event. A file SCRIPT.expect has lines `LINE CLAUSE, ..`; LINE is a number of a line, or `end`. The words of a
 clause, numbers or names, are those of the program's output; docs/TESTING.md has them.
 """
 

@@ -1,4 +1,4 @@
-"""A fault in words: what is wrong where the exit of the program isn't 0, and in which file, line or word.
+"""A fault in words: what is wrong if the exit of the program isn't 0, and in which file, line or word.
 
 The numbers are the program's own: of a bad object those of `print`, of a bad text those of `build`. Which line of a
 script is bad is looked for in the script, by the same table of lines and causes, since a run can be long.

@@ -118,7 +118,7 @@ def words_of(file: str, text: str) -> tuple[list[tuple[int, int]], int]:
 
 
 def judged(file: str, words: list[tuple[int, int]], last: int) -> bytes:
-    """The bytes of the object. What isn't an object is told with the line of the word where that shows."""
+    """The bytes of the object. What isn't an object is told with the line of the word that shows it."""
     data = objects.to_bytes([word for word, _ in words])
     try:
         objects.decode(data)

@@ -82,7 +82,7 @@ SECTIONS = {
 # Sections of one record, without a count.
 SINGLE = ("config", "gpo")
 
-# The section in which a record stands.
+# The section that a record belongs to.
 HOMES = {kind: section.name for section in SECTIONS.values() for kind in section.records}
 
 # The lines of an object's text; those with a record have its words.

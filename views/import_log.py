@@ -36,7 +36,7 @@ class Found(NamedTuple):
 
 
 def numbered(entry: logs.Entry) -> str:
-    """The line of a script that an entry is, in numbers where it is a message."""
+    """The line of a script that an entry is, in numbers if it is a message."""
     return entry.line or " ".join(["ipi", *map(written, (entry.master, entry.call, *entry.words))])
 
 

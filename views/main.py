@@ -2,7 +2,7 @@
 
 The wrapper `pmu` calls this with PMU_PROGRAM, the absolute path of the program, and PMU_TOP, the top of the
 repository, in the environment. Where the program itself fails its exit is handed on, and a line on standard error says
-why; so it is where a file can't be read or written. What the program wrote before it failed is handed on by `--names`
+why; so it is if a file can't be read or written. What the program wrote before it failed is handed on by `--names`
 alone, which has the program's own lines: another view, and JSON, is whole or isn't written. All else that a view can't
 do, a fault of its own too, is one line on standard error and the exit 125. A file `-` is standard input, and `-o FILE`
 names a file for the output.

@@ -1,6 +1,6 @@
 """The modes of the processors after each step of a replay.
 
-The mode of a processor stands in no line of a step: it is asked for, by a message GET_NODE_STATUS after each line of the
+The mode of a processor is in no line of a step: it is asked for, by a message GET_NODE_STATUS after each line of the
 script that may change one, which itself changes nothing. If no master is awake to ask, the closing table of the script up to
 that line has it. The script has no line that breaks a node, so that the device follows the book.
 """

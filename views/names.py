@@ -34,7 +34,7 @@ class Call(NamedTuple):
 
     number: int
     name: str
-    arguments: Optional[tuple[str, ...]]  # what each word means, a key of WORDS or a plain word; None where it isn't served
+    arguments: Optional[tuple[str, ...]]  # what each word means, a key of WORDS or a plain word; None if it isn't served
 
 
 MODES = {0: "off", 1: "active", 2: "asleep", 3: "suspending"}
@@ -222,7 +222,7 @@ GPO3_PL_29 GPO3_PL_30 GPO3_PL_31 RPU_LS PS_ONLY PL PS_PL0 PS_PL1 PS_PL2 PS_PL3
 
 RESETS = {FIRST_RESET + place: name for place, name in enumerate(_RESETS.split())}
 
-# What a name may have before it where it is read. Reset lines are written with the first one, since the names of many
+# What a name that is read may have before it. Reset lines are written with the first one, since the names of many
 # are those of nodes too.
 PREFIXES = {
     "node": ("NODE_", "PD_"),
@@ -275,7 +275,7 @@ def line_name(number: int) -> str:
 
 
 def is_root(number: int) -> bool:
-    """Whether a clock is a root: it runs where its PLL does, and no call changes it."""
+    """Whether a clock is a root: it runs if its PLL does, and no call changes it."""
     return number in CLOCKS and not CLOCKS[number].parents
 
 
@@ -329,7 +329,7 @@ def state_name(number: int, value: int) -> str:
 
 
 def word_name(kind: str, word: int) -> str:
-    """A word of an argument by its name, or the number where it has none."""
+    """A word of an argument by its name, or the number if it has none."""
     if kind in SETS:
         return set_name(kind, word)
     if kind == "node":
@@ -358,7 +358,7 @@ _BY_NAME = {kind: _numbers(kind) for kind in ("node", "reset", "call", "clock", 
 
 
 def number_of(kind: str, name: str) -> Optional[int]:
-    """The number that a name of a kind has, with or without a prefix; None where there is none."""
+    """The number that a name of a kind has, with or without a prefix; None if there is none."""
     if kind == "line":
         if name.startswith(PREFIXES["reset"]):
             return number_of("reset", name)

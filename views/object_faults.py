@@ -8,7 +8,7 @@ from lines import count, form_fault, number_of, words_of
 
 
 def object_causes(word: int, offset: int, size: int) -> dict[int, str]:
-    """The sentence of each cause of a bad object at an offset in words, with the word that stands there."""
+    """The sentence of each cause of a bad object at an offset in words, with the word that is there."""
     return {
         1: f"its {size} bytes are no whole number of words of four bytes",
         2: f"it has more than {LIMITS['OBJ']} bytes",

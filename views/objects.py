@@ -54,7 +54,7 @@ class Record:
 
 @dataclass(frozen=True)
 class Section:
-    """A section with its records. In the preallocations a group stands before its own."""
+    """A section with its records. In the preallocations a group is before its own."""
 
     identifier: int
     offset: int

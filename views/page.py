@@ -59,7 +59,7 @@ def folded(summary: str, content: str, is_open: bool = False) -> str:
 
 
 def table(heads: Iterable[str], rows: Iterable[str]) -> str:
-    """A table that can be moved sideways where it is too wide."""
+    """A table that can be moved sideways if it is too wide."""
     head = tag("thead", tag("tr", "".join(tag("th", escape(word), scope="col") for word in heads)))
     return tag("div", tag("table", head + tag("tbody", "\n".join(rows))), class_="wide", tabindex="0")
 

@@ -2,7 +2,7 @@
 
 It shows what changes after the load, by the dump that `--vcd` writes: a signal of two values as high or low, one of more as boxes
 with the name of the state or mode. If the device didn't follow the book, or a line was pulsed, the unit has a second row with
-what the device has, and a cross at each command that it refused. Above each line of the script stands what it says.
+what the device has, and a cross at each command that it refused. Above each line of the script is its text.
 """
 
 import bisect

@@ -27,7 +27,7 @@ WORDS = {
 # A set of records by their bytes.
 Records = frozenset[int]
 
-# A reason for a step: sets of records, each of which ends it where all of them permit nothing more.
+# A reason for a step: sets of records, each of which ends it if all of them permit nothing more.
 Reason = list[Records]
 
 
@@ -72,7 +72,7 @@ def grounds_of(board: Board, questions: Sequence[Question]) -> Grounds:
 
 
 def left(reasons: Sequence[Reason], changed: Records) -> list[Reason]:
-    """The reasons that are left where some records are changed."""
+    """The reasons that are left if some records are changed."""
     return [reason for reason in reasons if not any(end <= changed for end in reason)]
 
 

@@ -104,7 +104,7 @@ def failed_by_step(lines: Sequence[str]) -> dict[str, dict[int, int]]:
 
 
 def meaning_of_reply(chip: Chip, message: Sequence[int], words: Sequence[int], failed: dict[int, int]) -> str:
-    """An answer, and which units lag where it is a success."""
+    """An answer, and which units lag if it is a success."""
     master, status, *rest = words
     said = f"{names.node_name(master)}: {meaning_of_answer(chip, message, status, rest)}"
     return said + lags(chip, message, failed) * (status == 0)

@@ -1,6 +1,6 @@
 """What the lines of a script are split into: the script that has a line of its own for each core event.
 
-A message that is put into a box by `post` is sent by `ipi` where it is served: a line `serve` becomes one line for each
+A message that is put into a box by `post` is sent by `ipi` when it is served: a line `serve` becomes one line for each
 message, by rising mask of their masters. A power call by `smc` becomes the lines that it comes to. A line that sends
 nothing is empty.
 """

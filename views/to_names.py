@@ -8,7 +8,7 @@ import to_numbers
 
 
 def mask_name(mask: int, masters: dict[int, int]) -> Optional[str]:
-    """A mask by the masters whose bits it has, or None where it has others or none."""
+    """A mask by the masters whose bits it has, or None if it has others or none."""
     found = [names.node_name(node) for node, bits in masters.items() if bits & mask]
     return "|".join(found) if found and not mask & ~sum(masters.values()) else None
 
@@ -20,7 +20,7 @@ def ipi_mask_name(mask: int) -> Optional[str]:
 
 
 def word_in_names(kind: str, word: str, masters: dict[int, int]) -> str:
-    """A number of a kind by its name, or the word as it is where it has none."""
+    """A number of a kind by its name, or the word as it is if it has none."""
     value = lines.number_of(word)
     if value is None or kind == "plain":
         return word

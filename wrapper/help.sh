@@ -4,7 +4,7 @@ help() {
     cat <<'END_OF_HELP'
 usage: ./pmu replay OBJ SCRIPT   runs the script of the file SCRIPT over the configuration object of the file OBJ
        ./pmu reach OBJ NODE      writes what the master NODE of the object can reach
-       ./pmu isolate OBJ SCRIPT NODE    writes that, and what differs where the script runs without its messages
+       ./pmu isolate OBJ SCRIPT NODE    writes that, and what differs if the script runs without its messages
        ./pmu print OBJ           writes the object as a text
        ./pmu build TEXT          writes the object that the text of the file TEXT means
        ./pmu make N              runs a script of N lines that is made, and writes six counts of that

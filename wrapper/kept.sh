@@ -3,7 +3,7 @@
 #   proved          the program, proved
 #   unproved        before its proof, compiled with optimisation
 #   unproved-slow   before its proof, compiled as `rt try` does: without optimisation, with the address sanitizer
-# They are kept in out/ at the top or, where that can't be written, in a cache folder of the user's. A program is written
+# They are kept in out/ at the top or, if that can't be written, in a cache folder of the user's. A program is written
 # beside its name and then moved there, so that no file of such a name is half a program, and none counts once a source
 # is another.
 #

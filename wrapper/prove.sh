@@ -39,7 +39,7 @@ progress() {
         }' "$room/sizes" "$room/log"
 }
 
-# What is shown of that: on a terminal at each second; else where another crate is proved, and the first time at which
+# What is shown of that: on a terminal at each second; else when another crate is proved, and the first time at which
 # the rest can be reckoned.
 show_progress() {
     line=$(progress "$1")
