@@ -1,3 +1,4 @@
+pub mod EndedLemmas
 pub mod LogLemmas
 pub mod Refusals
 pub mod TakenLemmas

@@ -7,6 +7,7 @@ use Rattle.std.specs.IoError.{error_kind}
 use Rattle.pm_base.specs.declared.errors.Exit.{Exit}
 use Rattle.pm_base.specs.declared.errors.Exit.TheVariants as exit
 use Rattle.pm_io.specs.Calls.{Call}
+use Rattle.pm_host.specs.Written.{Written}
 use Rattle.pm_chip.specs.Chip.{chip}
 use Rattle.pm_device.specs.declared.device.Device as Device
 use Rattle.pm_device.specs.Fresh.{IsFresh}
@@ -15,7 +16,7 @@ use Rattle.pm_top.specs.declared.works.Work.TheVariants.{Replay}
 use Rattle.pm_top.specs.Form.{form, over, request_of, topology_in}
 use Rattle.pm_top.specs.Ran.{IsBeforeRun}
 use Rattle.pm_cli.specs.Logged.{IsLogOfRun, IsSafeLog}
-use Rattle.pm_cli.specs.Replayed.{HasReplayed}
+use Rattle.pm_cli.specs.Replayed.{RunEnded}
 
 -- a run of these words ended with this exit, and with these acts on its device
 pub record HasEnded (d : Device.Ghosts Bench) (ws : List (List ℕ)) (result : Exit) (old new : Bench) : Type 0 where
@@ -28,10 +29,9 @@ pub record HasEnded (d : Device.Ghosts Bench) (ws : List (List ℕ)) (result : E
   -- if `replay` ends with Done, the acts on the device are those of the whole run of a script, after a fit if the
   -- words name a topology
   pub driven : (named : Option ℕ) → result ≡ exit.Done → request_of ws ≡ Some (over named Replay) → IsLogOfRun named new.log
-  -- and then the headline holds for what some calls gave (those on its inputs) and for some bytes (those that its
-  -- writer took)
-  pub replayed : (named : Option ℕ) → result ≡ exit.Done → request_of ws ≡ Some (over named Replay)
-      → (calls : List Call) × (bytes : List ℕ) × HasReplayed d named ws calls bytes old new
+  -- memory ran out before there were inputs and an output, and nothing was done to the device; or all is as what some
+  -- calls gave (those on its inputs) and some writer took (that of its output)
+  pub ran : ((result ≡ exit.Memory) × (old ≡ new)) ⊎ ((calls : List Call) × (writer : Written) × RunEnded d ws calls writer result old new)
 
 -- these words were run over a new device of the chip, with all units at 0
 pub record HasRun (d : Device.Ghosts Bench) (ws : List (List ℕ)) (result : Exit) : Type 0 where

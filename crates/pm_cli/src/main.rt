@@ -1,10 +1,10 @@
 //! The program `pmu`: the top call over the host's files, its standard output, and a device in memory.
 #![tactic(auto)]
 
-ghost use Rattle.std.specs.Prelude.{◌≡◌, ℕ, [], IfOk, List as Sequence, MatchResult, None, Option, Some, map, string_bytes};
+ghost use Rattle.std.specs.Prelude.{◌≡◌, ◌⊎◌, ℕ, [], IfOk, List as Sequence, MatchResult, None, Option, Some, map, string_bytes};
 ghost use Rattle.std.specs.Process.{exit_status};
 ghost use Rattle.pm_io.specs.Calls.{Call};
-ghost use Rattle.pm_io.specs.Readings.{Meanwhile};
+ghost use Rattle.pm_host.specs.Written.{Written};
 ghost use Rattle.pm_chip.specs.Chip.{chip};
 ghost use Rattle.pm_device.specs.Fresh.{IsFresh};
 ghost use Rattle.pm_device.specs.Model.{moment_of};
@@ -16,7 +16,7 @@ ghost use Rattle.pm_tasks.specs.Stored.{timetable};
 ghost use Rattle.pm_cli.specs.Brought.{AreTwoCounters, programs_modules};
 ghost use Rattle.pm_cli.specs.Ended.{AreWordsOf, HasEnded, HasRun, HasRunGiven, MayRun, ProcessEnds, code_of};
 ghost use Rattle.pm_cli.specs.Logged.{IsLogOfRun, IsSafeLog};
-ghost use Rattle.pm_cli.specs.Replayed.{HasReplayed};
+ghost use Rattle.pm_cli.specs.Replayed.{RunEnded};
 
 mod brought;
 
@@ -158,12 +158,11 @@ fn work<R: Files + Print + AllocGlobal>(
     ensures safe { IsSafeLog (topology_in (map string_bytes words.now)) device.new.log }
     ensures driven { (named : Option ℕ) → result ≡ Exit.Done
         → request_of (map string_bytes words.now) ≡ Some (over named Replay) → IsLogOfRun named device.new.log }
-    // The headline holds for what some calls gave, and for some bytes. `run_on` says that these are the calls on the
-    // files and the bytes of the output.
-    ensures replayed { (named : Option ℕ) → result ≡ Exit.Done
-        → request_of (map string_bytes words.now) ≡ Some (over named Replay)
-        → (calls : Sequence Call) × (bytes : Sequence ℕ) × HasReplayed ⟦<ModelDevice as Device>⟧ named
-        (map string_bytes words.now) calls bytes device.old device.new }
+    // Memory ran out before there were inputs and an output; or some calls decide the exit, and on Done some writer took
+    // exactly the text. `run_on` says that these are all calls on the files, and the writer of this output.
+    ensures ran { ((result ≡ Exit.Memory) × (device.old ≡ device.new))
+        ⊎ ((calls : Sequence Call) × (writer : Written) × RunEnded ⟦<ModelDevice as Device>⟧
+        (map string_bytes words.now) calls writer result device.old device.new) }
 {
     let Ok(mut inputs) = HostInputs::new(rt.alloc(), rt) else {
         return Exit::Memory;
@@ -182,8 +181,8 @@ fn work<R: Files + Print + AllocGlobal>(
     )
 }
 
-/// Runs these words over these inputs and a sink that has accepted nothing, and hands the sink's bytes on to its
-/// writer.
+/// Runs these words over inputs on which no call was made and a sink that has accepted nothing, and hands the sink's
+/// bytes on to its writer.
 fn run_on<I: Inputs, W: Write + Drop>(
     alloc: Global,
     words: &[String],
@@ -193,6 +192,7 @@ fn run_on<I: Inputs, W: Write + Drop>(
     modules: &Modules,
     tasks: &mut Tasks,
 ) -> Exit
+    requires unread { (I.state inputs.old).calls ≡ [] }
     requires unused { out.old.accepted ≡ [] }
     requires fresh { IsFresh chip (moment_of device.old) }
     requires log { device.old.log ≡ [] }
@@ -205,11 +205,9 @@ fn run_on<I: Inputs, W: Write + Drop>(
     ensures safe { IsSafeLog (topology_in (map string_bytes words.now)) device.new.log }
     ensures driven { (named : Option ℕ) → result ≡ Exit.Done
         → request_of (map string_bytes words.now) ≡ Some (over named Replay) → IsLogOfRun named device.new.log }
-    // The headline holds for the bytes that the calls of the inputs gave, and for all bytes that the writer took.
-    ensures replayed { (named : Option ℕ) → result ≡ Exit.Done
-        → request_of (map string_bytes words.now) ≡ Some (over named Replay)
-        → Meanwhile (I.state inputs.old) (I.state inputs.new) (λ calls. HasReplayed ⟦<ModelDevice as Device>⟧ named
-        (map string_bytes words.now) calls out.new.out.bytes device.old device.new) }
+    // What all calls on the inputs gave decides the exit, and on Done all bytes that the writer took are the text.
+    ensures given { RunEnded ⟦<ModelDevice as Device>⟧ (map string_bytes words.now) (I.state inputs.new).calls
+        out.new.out result device.old device.new }
 {
     logged_acts_are_safe();
     chains_are_logged();

@@ -42,13 +42,19 @@ use Rattle.pm_top.specs.Ran.{Decides, FormDecides, FormMayFail, InputsMayFail, L
 use Rattle.pm_top.proofs.HeldWhole.{all_of, object_fits, script_whole, whole}
 use Rattle.pm_top.proofs.TakingLemmas.{means_short}
 
+-- where the sink took all, only want of memory keeps a run that is right from Done
+pub sure_end : {O : Type 0} (o : Sink.Ghosts O) (sink sink' : O) (result : Exit) → (HasFailed (o.state sink) (o.state sink') → ⊥) → EndsWith o exit.Done sink sink' result → (result ≡ exit.Done) ⊎ (result ≡ exit.Memory)
+sure_end o sink sink' result took (inl done) = inl done
+sure_end o sink sink' result took (inr (inl memory)) = inr memory
+sure_end o sink sink' result took (inr (inr broken)) = absurd (took broken.1)
+
 -- ---- the object
 
 -- a name that can't fail is read to its end
 first_whole : (limit : ℕ) (m : Moment) (name bytes : List ℕ) → Holds m name bytes → length bytes ≤ limit → (MayFail name limit m → ⊥) → first_prefix limit m name ≡ all_of bytes
 first_whole limit m name bytes held fits sure = whole limit m name m.room bytes held fits (λ none. sure (inl (inr none))) sure
 
-lines_there : (lines : Option ℕ) → IsSome lines → laboratory_if lines ≡ Ok laboratory
+pub lines_there : (lines : Option ℕ) → IsSome lines → laboratory_if lines ≡ Ok laboratory
 lines_there None is = let clash : false ≡ true = is in cc
 lines_there (Some n) is = refl
 
@@ -101,7 +107,7 @@ module _ (written : (bytes : List ℕ) (o : Object) → Reads bytes o → readin
 
   -- ---- its master
 
-  subject_named : (object : Object) (topology : Topology) (lines : ℕ) (node : Option ℕ) (ws : List (List ℕ)) → NamesMaster node ws object → (subject : Subject) × (with_master object topology lines node ws ≡ Ok subject)
+  pub subject_named : (object : Object) (topology : Topology) (lines : ℕ) (node : Option ℕ) (ws : List (List ℕ)) → NamesMaster node ws object → (subject : Subject) × (with_master object topology lines node ws ≡ Ok subject)
   subject_named object topology lines None ws named = (record { object = object; topology = topology; master = None; lines = lines }, refl)
   subject_named object topology lines (Some k) ws named = by (master_of object (word k ws)) named
     where
@@ -145,18 +151,13 @@ module _ (written : (bytes : List ℕ) (o : Object) → Reads bytes o → readin
   -- ---- the run
 
   module _ {I O D : Type 0} (i : Inputs.Ghosts I) (o : Sink.Ghosts O) (d : Device.Ghosts D) (ws : List (List ℕ)) (board is : Standing) (w w' : World I O D) (result : Exit) where
-    sure_end : (HasFailed (o.state w.sink) (o.state w'.sink) → ⊥) → EndsWith o exit.Done w.sink w'.sink result → (result ≡ exit.Done) ⊎ (result ≡ exit.Memory)
-    sure_end took (inl done) = inl done
-    sure_end took (inr (inl memory)) = inr memory
-    sure_end took (inr (inr broken)) = absurd (took broken.1)
-
     ends : Decides o ws (i.state w.inputs) w.sink w'.sink result → IsRight ws (i.state w.inputs) → (InputsMayFail ws (i.state w.inputs) → ⊥) → (HasFailed (o.state w.sink) (o.state w'.sink) → ⊥) → (result ≡ exit.Done) ⊎ (result ≡ exit.Memory)
     ends decides right sure took = by (form ws) decides right sure
       where
         by : (f : Option Form) → FormDecides o f ws (i.state w.inputs) w.sink w'.sink result → FormIsRight f ws (i.state w.inputs) → (FormMayFail f ws (i.state w.inputs) → ⊥) → (result ≡ exit.Done) ⊎ (result ≡ exit.Memory)
         by None decides right sure = absurd right
         by (Some f) decides right sure =
-            sure_end took (subst (λ (due : Exit). EndsWith o due w.sink w'.sink result) (done_due f ws (i.state w.inputs) decides.0 right sure) decides.1)
+            sure_end o w.sink w'.sink result took (subst (λ (due : Exit). EndsWith o due w.sink w'.sink result) (done_due f ws (i.state w.inputs) decides.0 right sure) decides.1)
 
     pub is_complete : (i.observable → Decides o ws (i.state w.inputs) w.sink w'.sink result) → (i.observable → o.observable → result ≡ exit.Done → IsDone i o d ws board is w w') → (result ≡ exit.ReadFault → Rose (i.state w.inputs).faults (i.state w'.inputs).faults) → IsComplete i o d ws board is w w' result
     is_complete decides done read = record {

@@ -1,5 +1,5 @@
 -- The exits of the program, and what each of them means.
-use Rattle.std.proofs.Common.{◌≡◌, ℕ, ◌+◌, Bool, true, false, List, [], ◌∷◌, length, Option, Some, Result, Ok, Err, refl, sym, ◌∙◌, ap, subst, inl, inr}
+use Rattle.std.proofs.Common.{◌≡◌, ℕ, ◌+◌, ◌⊎◌, Bool, true, false, List, [], ◌∷◌, length, Option, Some, Result, Ok, Err, refl, sym, ◌∙◌, ap, subst, inl, inr}
 use Rattle.pm_base.specs.Faults.{Rose}
 use Rattle.pm_base.specs.declared.errors.Exit.{Exit}
 use Rattle.pm_base.specs.declared.errors.Exit.TheVariants as exit
@@ -69,7 +69,14 @@ due board work (Err fault) (Err cause) answers is = ap (λ (fault : Fault). exit
 due board work (Ok job) (Err cause) answers is = absurd is
 due board work (Err fault) (Ok asked) answers is = absurd is
 
--- all inputs can be opened
+-- the exit of a job that is what is asked for, or for which memory was wanted
+pub ends_due : {O : Type 0} (o : Sink.Ghosts O) (board : Standing) (work : Work) (job : Result Job Fault) (answers : List (List Bool)) (sink sink' : O) (result : Exit) (asked : Result Asked Fault) → (job ≡ Err Memory) ⊎ Meets job asked
+    → EndsBy o (exit_after (report_of (report board work) job answers).fault) sink sink' result → EndsWith o (job_exit asked) sink sink' result
+ends_due o board work job answers sink sink' result asked is (inr broken) = inr (inr broken)
+ends_due o board work job answers sink sink' result asked (inl memory) (inl ends) = inr (inl (ends ∙ ap (λ (j : Result Job Fault). exit_after (report_of (report board work) j answers).fault) memory))
+ends_due o board work job answers sink sink' result asked (inr meets) (inl ends) = inl (ends ∙ due board work job asked answers meets)
+
+-- all inputs can be begun
 all_begin : (m : Moment) → Begins m
 all_begin m = record { second = true; third = true; two = λ room. refl; three = λ room. refl }
 
@@ -138,14 +145,8 @@ module _ {I O : Type 0} (i : Inputs.Ghosts I) (o : Sink.Ghosts O) (say : ExitsSa
 
     pub decided : i.observable → FormDecides o (Some f) ws (i.state old) sink sink' result
     decided seen = elim (did.asked.shown seen) [
-      | inl memory ↦ (all_begin (i.state old), by_memory (job_exit (asked_of f ws (i.state old) (all_begin (i.state old)))) did.job memory said.ends)
-      | inr job ↦ (job.0, by did.job (asked_of f ws (i.state old) job.0) job.1 said.ends)
+      | inl memory ↦
+          let asked : Result Asked Fault = asked_of f ws (i.state old) (all_begin (i.state old)) in
+          (all_begin (i.state old), ends_due o board f.work did.job did.answers sink sink' result asked (inl memory) said.ends)
+      | inr job ↦ (job.0, ends_due o board f.work did.job did.answers sink sink' result (asked_of f ws (i.state old) job.0) (inr job.1) said.ends)
     ]
-      where
-        by_memory : (other : Exit) (job : Result Job Fault) → job ≡ Err Memory → EndsBy o (exit_after (report_of (report board f.work) job did.answers).fault) sink sink' result → EndsWith o other sink sink' result
-        by_memory other job is (inl ends) = inr (inl (ends ∙ ap (λ (j : Result Job Fault). exit_after (report_of (report board f.work) j did.answers).fault) is))
-        by_memory other job is (inr broken) = inr (inr broken)
-
-        by : (job : Result Job Fault) (asked : Result Asked Fault) → Meets job asked → EndsBy o (exit_after (report_of (report board f.work) job did.answers).fault) sink sink' result → EndsWith o (job_exit asked) sink sink' result
-        by job asked is (inl ends) = inl (ends ∙ due board f.work job asked did.answers is)
-        by job asked is (inr broken) = inr (inr broken)

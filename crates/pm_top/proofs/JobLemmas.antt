@@ -33,11 +33,11 @@ use Rattle.pm_top.proofs.Unread.{IsAskedFor}
 end_is_failed : End ≡ Failed → ⊥
 end_is_failed e = cc
 
-if_none : {X : Type 0} {P : Type 0} (o : Option X) → P → IfNone o P
+pub if_none : {X : Type 0} {P : Type 0} (o : Option X) → P → IfNone o P
 if_none None p = p
 if_none (Some x) p = tt
 
-not_none : {X : Type 0} (P : Type 0) (o : Option X) (x : X) → o ≡ Some x → IfNone o P
+pub not_none : {X : Type 0} (P : Type 0) (o : Option X) (x : X) → o ≡ Some x → IfNone o P
 not_none P None x is = cc
 not_none P (Some y) x is = tt
 
@@ -56,13 +56,13 @@ abbrev pub job_by : Subject → Result Comparison Fault → Result Job Fault
 job_by subject (Ok found) = Ok (record { asked = asked_with subject found.script; members = found.members; events = [] })
 job_by subject (Err fault) = Err fault
 
-met : (subject : Subject) (job : Result Comparison Fault) (script : Result Script Fault) → script_of_job job ≡ script → IfOk job (λ found. IsFound (asked_with subject found.script) found.members) → Meets (job_by subject job) (with_script subject script)
+pub met : (subject : Subject) (job : Result Comparison Fault) (script : Result Script Fault) → script_of_job job ≡ script → IfOk job (λ found. IsFound (asked_with subject found.script) found.members) → Meets (job_by subject job) (with_script subject script)
 met subject (Ok found) (Ok s) is reach = (ap (asked_with subject) (ok_is is), reach)
 met subject (Ok found) (Err due) is reach = absurd (ok_is_err is)
 met subject (Err fault) (Ok s) is reach = absurd (ok_is_err (sym is))
 met subject (Err fault) (Err due) is reach = err_is is
 
-wanting : (subject : Subject) (job : Result Comparison Fault) → script_of_job job ≡ Err Memory → job_by subject job ≡ Err Memory
+pub wanting : (subject : Subject) (job : Result Comparison Fault) → script_of_job job ≡ Err Memory → job_by subject job ≡ Err Memory
 wanting subject (Ok found) is = absurd (ok_is_err is)
 wanting subject (Err fault) is = ap (λ (fault : Fault). Err fault) (err_is is)
 

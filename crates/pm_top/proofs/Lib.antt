@@ -1,5 +1,10 @@
+pub mod CalledLaw
+pub mod CallsLaw
 pub mod CauseLemmas
+pub mod CompleteGiven
 pub mod CompleteLemmas
+pub mod DoneHeld
+pub mod DoneLaw
 pub mod DroveLemmas
 pub mod ExitsLemmas
 pub mod FitLemmas
@@ -9,11 +14,14 @@ pub mod HeldWhole
 pub mod JobLemmas
 pub mod MainLemmas
 pub mod MakingLemmas
+pub mod OutcomeLaw
 pub mod PieceLemmas
+pub mod RanLaw
+pub mod ReadsLemmas
 pub mod RequestLemmas
 pub mod SubjectLemmas
 pub mod TakingLemmas
 pub mod Unread
+pub mod WorkGiven
 pub mod WorkLemmas
 pub mod WritingLemmas
-pub mod ReadsLemmas

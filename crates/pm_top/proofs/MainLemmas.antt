@@ -6,6 +6,7 @@ use Rattle.pm_base.specs.declared.errors.Exit.{Exit}
 use Rattle.pm_base.specs.declared.errors.Exit.TheVariants as exit
 use Rattle.pm_io.specs.declared.inputs.Inputs as Inputs
 use Rattle.pm_io.specs.declared.sink.Sink as Sink
+use Rattle.pm_io.specs.Calls.{Call}
 use Rattle.pm_io.specs.Sink.{HasFailed, IsUnfailed}
 use Rattle.pm_board.specs.Board.{Standing}
 use Rattle.pm_device.specs.declared.device.Device as Device
@@ -21,13 +22,15 @@ use Rattle.pm_top.specs.Form.{form}
 use Rattle.pm_top.specs.Words.{word}
 use Rattle.pm_top.specs.Job.{Job}
 use Rattle.pm_top.specs.Asked.{lines_by}
-use Rattle.pm_top.specs.Ran.{Decides, Drives, FormDecides, FormMayFail, InputsMayFail, IsBeforeRun, IsShown, Ran, RanForm, StarvesBefore, StarvesFirst, Touches, TouchesBy, drives, nothing_to_do}
+use Rattle.pm_top.specs.Called.{asked_given}
+use Rattle.pm_top.specs.Done.{report}
+use Rattle.pm_top.specs.Ran.{Decides, DecidesGiven, Drives, FormDecides, FormMayFail, InputsMayFail, IsBeforeRun, IsShown, Ran, RanForm, RanGiven, StarvesBefore, StarvesFirst, Touches, TouchesBy, drives, nothing_to_do}
 use Rattle.pm_top.specs.Ran.Drives.{AsItWrites, BeforeItWrites, Never}
 use Rattle.pm_top.proofs.Unread.{FailsToRead}
 use Rattle.pm_top.proofs.SubjectLemmas.{memory_is_read}
 use Rattle.pm_top.proofs.CauseLemmas.{job_cause}
 use Rattle.pm_trace.proofs.ReadsLemmas.{refused_exit}
-use Rattle.pm_top.proofs.ExitsLemmas.{decided, not_before, not_usage, read_fault, starved, starved_first, unfailed, unread, unread_late, write_fault}
+use Rattle.pm_top.proofs.ExitsLemmas.{decided, ends_due, not_before, not_usage, read_fault, starved, starved_first, unfailed, unread, unread_late, write_fault}
 
 module _ {I O D : Type 0} (i : Inputs.Ghosts I) (o : Sink.Ghosts O) (say : ExitsSay o) (d : Device.Ghosts D) (ws : List (List ℕ)) (board then : Standing) (w w' : World I O D) (result : Exit) where
   -- words without a form are refused
@@ -47,6 +50,16 @@ module _ {I O D : Type 0} (i : Inputs.Ghosts I) (o : Sink.Ghosts O) (say : Exits
       by : (f : Option Form) → RanForm i o d f ws board then w w' result → FormDecides o f ws (i.state w.inputs) w.sink w'.sink result
       by None did = usage_exit did
       by (Some f) did = decided i o say board f ws w.inputs w'.inputs w.sink w'.sink result (Touches d f ws board then (IsShown i o d f ws w) w.device w'.device) did seen
+
+  -- by what calls gave
+  pub decides_given : (calls : List Call) → RanGiven o d (form ws) ws board then calls w.sink w'.sink w.device w'.device result → DecidesGiven o (form ws) ws calls w.sink w'.sink result
+  decides_given calls ran = by (form ws) ran
+    where
+      by : (f : Option Form) → RanGiven o d f ws board then calls w.sink w'.sink w.device w'.device result → DecidesGiven o f ws calls w.sink w'.sink result
+      by None did = usage_exit did
+      by (Some f) did =
+          ends_due o board f.work did.job did.answers w.sink w'.sink result (asked_given f ws calls) did.asked.is
+          (say (report_of (report board f.work) did.job did.answers) did.cut w.sink w'.sink result did.left did.ends).ends
 
   pub memory : Ran i o d ws board then w w' result → result ≡ exit.Memory → IsStarved o w.sink w'.sink
   memory ran is = by (form ws) ran

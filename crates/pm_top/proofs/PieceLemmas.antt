@@ -1,9 +1,9 @@
 -- Each piece that a form writes: it is the text of its job, and what Done means of it.
 use Rattle.std.proofs.Common.{◌≡◌, ℕ, false, List, [], ◌∷◌, ◌++◌, Option, Ok, refl, sym, ◌∙◌, ap, subst}
 use Rattle.std.specs.Prelude.{IfSome, is_some}
-use Rattle.pm_io.specs.declared.inputs.Inputs as Inputs
 use Rattle.pm_base.specs.declared.names.NodeId.{NodeId}
 use Rattle.pm_io.specs.declared.sink.Sink as Sink
+use Rattle.pm_io.specs.Inputs.{Moment}
 use Rattle.pm_object.specs.Grammar.{Reads, little_endian, words_of}
 use Rattle.pm_objtext.specs.Printing.{text_of}
 use Rattle.pm_reach.specs.declared.members.Member.{Member}
@@ -19,10 +19,11 @@ use Rattle.pm_top.specs.declared.works.Piece.{Piece}
 use Rattle.pm_top.specs.declared.works.Piece.TheVariants.{Reach, ObjectText, ObjectBytes, TopologyText}
 use Rattle.pm_top.specs.declared.works.Source.TheVariants as source
 use Rattle.pm_top.specs.declared.works.Work.TheVariants.{Write}
-use Rattle.pm_top.specs.Form.{IsPiece, PieceDone, form_of, piece_node, piece_source, piece_text}
+use Rattle.pm_top.specs.Form.{IsPiece, PieceDoneBy, form_of, piece_node, piece_source, piece_text}
+use Rattle.pm_top.specs.Given.{IsTopologyOf, Text, object_texts}
 use Rattle.pm_top.specs.Within.{ReadsSubject}
-use Rattle.pm_top.proofs.SubjectLemmas.{is_chip, topology_held, unnamed, was_read}
-use Rattle.pm_top.proofs.WritingLemmas.{object_held, text_held}
+use Rattle.pm_top.specs.Words.{word}
+use Rattle.pm_top.proofs.SubjectLemmas.{is_chip, unnamed, was_read}
 
 -- no piece is read from a number of lines
 pub unnumbered : (piece : Piece) → piece_source piece ≡ source.Number → ⊥
@@ -58,46 +59,51 @@ text_of_job TopologyText subject text named made = alone TopologyText subject te
 
 -- ---- what Done means
 
-module _ {I O : Type 0} (i : Inputs.Ghosts I) (o : Sink.Ghosts O) (ws : List (List ℕ)) (old mid : I) (sink sink' : O) (named : Option ℕ) (subject : Subject) (text : List ℕ) (seen : i.observable) (appended : (o.state sink').bytes ≡ (o.state sink).bytes ++ text) where
-  -- so for a text with these bytes
-  after : (other : List ℕ) → text ≡ other → (o.state sink').bytes ≡ (o.state sink).bytes ++ other
-  after other same = appended ∙ ap (λ (text : List ℕ). (o.state sink).bytes ++ text) same
+module _ {O : Type 0} (o : Sink.Ghosts O) (AreRead : List Text → Type 0) (ws : List (List ℕ)) (before after : Moment) (sink sink' : O) (named : Option ℕ) (subject : Subject) (text : List ℕ) (shown : Type 0) (appended : (o.state sink').bytes ≡ (o.state sink).bytes ++ text) where
+  -- the same where the text is spelled so
+  spelled : (other : List ℕ) → text ≡ other → (o.state sink').bytes ≡ (o.state sink).bytes ++ other
+  spelled other same = appended ∙ ap (λ (text : List ℕ). (o.state sink).bytes ++ text) same
 
-  pub piece_done : (piece : Piece) → ReadsSubject i.observable (form_of (Write piece) named) ws (i.state old) (i.state mid) (Ok subject) → IsPiece piece subject text → PieceDone i o piece named ws old sink sink'
-  piece_done Reach reads made =
-      let f : Form = form_of (Write Reach) named in
-      record {
-        bytes = reads.prefix.bytes;
-        object = subject.object;
-        topology = subject.topology;
-        master = made.0;
-        members = made.2.members;
-        held = object_held i.observable f ws (i.state old) (i.state mid) subject reads refl seen;
-        topology_held = topology_held f i.observable ws (i.state old) (i.state mid) subject reads seen;
-        reads = reads.says;
-        master_named = (was_read f ws reads.prefix reads.topology subject reads.is).master 2 refl ∙ made.1;
-        reach = made.2.reach;
-        text = after (reach_text made.2.members) made.2.is;
-      }
-  piece_done ObjectText reads made = record {
+  pub piece_done : (piece : Piece) → (reads : ReadsSubject shown (form_of (Write piece) named) ws before after (Ok subject)) → (texts : List Text)
+      → IsTopologyOf (form_of (Write piece) named).topology ws texts subject.topology → AreRead (object_texts (piece_source piece) (word 1 ws) reads.prefix.bytes ++ texts)
+      → IsPiece piece subject text → PieceDoneBy o AreRead piece named ws sink sink'
+  piece_done Reach reads texts over read made = record {
     bytes = reads.prefix.bytes;
+    topology_texts = texts;
     object = subject.object;
-    held = object_held i.observable (form_of (Write ObjectText) named) ws (i.state old) (i.state mid) subject reads refl seen;
+    topology = subject.topology;
+    master = made.0;
+    members = made.2.members;
+    read = read;
     reads = reads.says;
-    text = after (text_of subject.object) made;
+    over = over;
+    master_named = (was_read (form_of (Write Reach) named) ws reads.prefix reads.topology subject reads.is).master 2 refl ∙ made.1;
+    reach = made.2.reach;
+    text = spelled (reach_text made.2.members) made.2.is;
   }
-  piece_done ObjectBytes reads made = record {
+  piece_done ObjectText reads texts over read made = record {
+    bytes = reads.prefix.bytes;
+    topology_texts = texts;
+    object = subject.object;
+    topology = subject.topology;
+    read = read;
+    reads = reads.says;
+    over = over;
+    text = spelled (text_of subject.object) made;
+  }
+  piece_done ObjectBytes reads texts over read made = record {
     bytes = reads.prefix.bytes;
     object = subject.object;
-    held = text_held i.observable (form_of (Write ObjectBytes) named) ws (i.state old) (i.state mid) subject reads refl seen;
+    read = subst (λ (texts : List Text). AreRead (object_texts source.Text (word 1 ws) reads.prefix.bytes ++ texts)) over.0 read;
     says = reads.says;
-    text = after (little_endian (words_of subject.object)) made.spelling;
+    text = spelled (little_endian (words_of subject.object)) made.spelling;
     reads = subst (λ (bytes : List ℕ). Reads bytes subject.object) made.spelling made;
   }
-  piece_done TopologyText reads made =
-      let chips : subject.topology ≡ chip = is_chip (form_of (Write TopologyText) named) i.observable ws (i.state old) (i.state mid) subject reads in
+  piece_done TopologyText reads texts over read made =
+      let chips : subject.topology ≡ chip = is_chip (form_of (Write TopologyText) named) shown ws before after subject reads in
       let same : text ≡ table_of chip = made.is ∙ ap table_of chips in
       record {
-        text = after (table_of chip) same;
+        read = subst AreRead over.0 read;
+        text = spelled (table_of chip) same;
         means = sym (ap meaning same) ∙ made.means ∙ ap (λ (t : Topology). Ok t) chips;
       }

@@ -1,11 +1,13 @@
--- The runs that have to end in Done: what the words ask for is right by what the inputs hold, and nothing fails.
-use Rattle.std.specs.Prelude.{◌≡◌, ◌≢◌, ℕ, ◌≤◌, ◌⊎◌, List, length, Option, Some, None, IsSome, ⊤}
+-- The runs that have to end in Done: what the words ask for is right, by what the inputs hold or by what their calls
+-- gave, and nothing fails.
+use Rattle.std.specs.Prelude.{◌≡◌, ◌≢◌, ℕ, ◌≤◌, ◌⊎◌, List, ◌++◌, length, Option, Some, None, IsSome, ⊤}
 use Rattle.pm_base.specs.declared.errors.Exit.{Exit}
 use Rattle.pm_base.specs.declared.errors.Exit.TheVariants as exit
 use Rattle.pm_base.specs.declared.events.Event.{Event}
 use Rattle.pm_io.specs.declared.inputs.Inputs as Inputs
 use Rattle.pm_io.specs.declared.sink.Sink as Sink
 use Rattle.pm_base.specs.Faults.{Rose}
+use Rattle.pm_io.specs.Calls.{Call}
 use Rattle.pm_io.specs.Inputs.{Holds, Moment}
 use Rattle.pm_io.specs.Sink.{HasFailed}
 use Rattle.pm_io.specs.World.{World}
@@ -25,6 +27,7 @@ use Rattle.pm_top.specs.Asked.{lines_asked, master_of}
 use Rattle.pm_top.specs.Done.{IsDone}
 use Rattle.pm_top.specs.Fit.{HoldsTopology}
 use Rattle.pm_top.specs.Form.{form}
+use Rattle.pm_top.specs.Given.{AreScript, GaveEach, IsObjectOf, IsTopologyOf, Text}
 use Rattle.pm_top.specs.Words.{word}
 use Rattle.pm_top.specs.Ran.{InputsMayFail}
 
@@ -73,6 +76,24 @@ FormIsRight (Some f) ws m = ReadsRight f ws m
 -- the words have a form, and what it reads is right
 abbrev pub IsRight : List (List ℕ) → Moment → Type 0
 IsRight ws m = FormIsRight (form ws) ws m
+
+-- texts were read under the names of a form, in its order, and they are right
+pub record AreRight (AreRead : List Text → Type 0) (f : Form) (ws : List (List ℕ)) : Type 0 where
+  pub object : Object
+  pub topology : Topology
+  pub object_texts : List Text
+  pub topology_texts : List Text
+  pub script_texts : List Text
+  pub read : AreRead (object_texts ++ (topology_texts ++ script_texts))
+  pub is : IsObjectOf f.source (word 1 ws) object_texts object
+  pub over : IsTopologyOf f.topology ws topology_texts topology
+  pub master : NamesMaster f.node ws object
+  pub script : AreScript f.script ws script_texts
+
+-- all that the calls gave is right
+abbrev pub FormGivenRight : Option Form → List (List ℕ) → List Call → Type 0
+FormGivenRight None ws calls = ⊥
+FormGivenRight (Some f) ws calls = AreRight (GaveEach calls) f ws
 
 -- ---- the consequence
 

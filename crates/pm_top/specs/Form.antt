@@ -2,10 +2,8 @@
 -- the promises of Done.
 use Rattle.std.specs.Prelude.{◌≡◌, ℕ, List, [], ◌∷◌, ◌++◌, codes, if◌then◌else◌, Option, Some, None, Ok}
 use Rattle.std.specs.Str.{bytes_eq}
-use Rattle.pm_io.specs.declared.inputs.Inputs as Inputs
 use Rattle.pm_base.specs.declared.names.NodeId.{NodeId}
 use Rattle.pm_io.specs.declared.sink.Sink as Sink
-use Rattle.pm_io.specs.Inputs.{Holds}
 use Rattle.pm_object.specs.declared.object.Object.{Object}
 use Rattle.pm_object.specs.Grammar.{Reads, little_endian, words_of}
 use Rattle.pm_objtext.specs.Meaning.{Means}
@@ -26,8 +24,8 @@ use Rattle.pm_top.specs.declared.works.Source.{Source}
 use Rattle.pm_top.specs.declared.works.Source.TheVariants as source
 use Rattle.pm_top.specs.declared.works.Work.{Work}
 use Rattle.pm_top.specs.declared.works.Work.TheVariants.{Replay, Isolate, Make, Write}
-use Rattle.pm_top.specs.Asked.{master_of}
-use Rattle.pm_top.specs.Fit.{HoldsTopology}
+use Rattle.pm_top.specs.Asked.{master_of, object_limit, text_limit}
+use Rattle.pm_top.specs.Given.{IsTopologyOf, Text, text}
 use Rattle.pm_top.specs.Within.{IsReachText, IsTopologyText}
 use Rattle.pm_top.specs.Words.{word}
 
@@ -156,48 +154,52 @@ IsPiece TopologyText subject text = IsTopologyText subject.topology text
 
 -- ---- the promises of Done for a piece
 
-module _ {I O : Type 0} (i : Inputs.Ghosts I) (o : Sink.Ghosts O) where
-  -- an object was held under the first name, and the second word names a master of it. The text is the reach of that
-  -- master, on the chip, or on the topology whose text was held under a third name
-  pub record IsReached (named : Option ℕ) (ws : List (List ℕ)) (inputs : I) (old new : O) : Type 0 where
+module _ {O : Type 0} (o : Sink.Ghosts O) (AreRead : List Text → Type 0) where
+  -- an object was read under the first name, and the second word names a master of it. The text is the reach of that
+  -- master, on the chip, or on the topology whose text was read under a third name
+  pub record IsReachedBy (named : Option ℕ) (ws : List (List ℕ)) (old new : O) : Type 0 where
     pub bytes : List ℕ
+    pub topology_texts : List Text
     pub object : Object
     pub topology : Topology
     pub master : NodeId
     pub members : List Member
-    pub held : Holds (i.state inputs) (word 1 ws) bytes
-    pub topology_held : HoldsTopology named ws (i.state inputs) topology
+    pub read : AreRead (text (word 1 ws) object_limit bytes ∷ topology_texts)
     pub reads : Reads bytes object
+    pub over : IsTopologyOf named ws topology_texts topology
     pub master_named : master_of object (word 2 ws) ≡ Some master
     pub reach : IsReach (object ∷ []) topology master members
     pub text : (o.state new).bytes ≡ (o.state old).bytes ++ reach_text members
 
-  -- an object was held under the name, and its text was written
-  pub record IsPrinted (ws : List (List ℕ)) (inputs : I) (old new : O) : Type 0 where
+  -- an object was read under the name, and its text was written. (A topology would be read next if a word named one, but
+  -- no word does beside `print OBJ`)
+  pub record IsPrintedBy (named : Option ℕ) (ws : List (List ℕ)) (old new : O) : Type 0 where
     pub bytes : List ℕ
+    pub topology_texts : List Text
     pub object : Object
-    pub held : Holds (i.state inputs) (word 1 ws) bytes
+    pub topology : Topology
+    pub read : AreRead (text (word 1 ws) object_limit bytes ∷ topology_texts)
     pub reads : Reads bytes object
+    pub over : IsTopologyOf named ws topology_texts topology
     pub text : (o.state new).bytes ≡ (o.state old).bytes ++ text_of object
 
-  -- the text of an object was held under the name. The object's bytes were written, and reading them gives it again
-  pub record IsBuilt (ws : List (List ℕ)) (inputs : I) (old new : O) : Type 0 where
+  -- the text of an object was read under the name. The object's bytes were written, and reading them gives it again
+  pub record IsBuiltBy (ws : List (List ℕ)) (old new : O) : Type 0 where
     pub bytes : List ℕ
     pub object : Object
-    pub held : Holds (i.state inputs) (word 1 ws) bytes
+    pub read : AreRead (text (word 1 ws) text_limit bytes ∷ [])
     pub says : Means bytes object
     pub text : (o.state new).bytes ≡ (o.state old).bytes ++ little_endian (words_of object)
     pub reads : Reads (little_endian (words_of object)) object
 
-module _ {O : Type 0} (o : Sink.Ghosts O) where
-  -- the text of the chip's topology was written, and reading it gives that topology again
-  pub record IsTabled (old new : O) : Type 0 where
+  -- nothing was read. The text of the chip's topology was written, and reading it gives that topology again
+  pub record IsTabledBy (old new : O) : Type 0 where
+    pub read : AreRead []
     pub text : (o.state new).bytes ≡ (o.state old).bytes ++ table_of chip
     pub means : meaning (table_of chip) ≡ Ok chip
 
-module _ {I O : Type 0} (i : Inputs.Ghosts I) (o : Sink.Ghosts O) where
-  abbrev pub PieceDone : Piece → Option ℕ → List (List ℕ) → I → O → O → Type 0
-  PieceDone Reach named ws inputs old new = IsReached i o named ws inputs old new
-  PieceDone ObjectText named ws inputs old new = IsPrinted i o ws inputs old new
-  PieceDone ObjectBytes named ws inputs old new = IsBuilt i o ws inputs old new
-  PieceDone TopologyText named ws inputs old new = IsTabled o old new
+  abbrev pub PieceDoneBy : Piece → Option ℕ → List (List ℕ) → O → O → Type 0
+  PieceDoneBy Reach named ws old new = IsReachedBy named ws old new
+  PieceDoneBy ObjectText named ws old new = IsPrintedBy named ws old new
+  PieceDoneBy ObjectBytes named ws old new = IsBuiltBy ws old new
+  PieceDoneBy TopologyText named ws old new = IsTabledBy old new

@@ -75,6 +75,11 @@ abbrev pub IsKnown : Form → Result Job Fault → Type 0
 IsKnown f (Ok job) = IsOf f job
 IsKnown f (Err fault) = IsFaultOf f fault
 
+-- a job is this one that is asked for, unless memory is wanted, and one of the form
+pub record IsJobFor (f : Form) (asked : Result Asked Fault) (job : Result Job Fault) : Type 0 where
+  pub is : (job ≡ Err Memory) ⊎ Meets job asked
+  pub known : IsKnown f job
+
 module _ {I : Type 0} (i : Inputs.Ghosts I) where
   -- the job is what the words ask for, by what the inputs show, unless memory runs out; on ReadFault the inputs'
   -- count rose

@@ -1,14 +1,16 @@
 pub mod Words
 pub mod Fit
 pub mod Asked
+pub mod Called
 pub mod Job
 pub mod Within
+pub mod Given
 pub mod Form
 pub mod Reads
 pub mod Making
-pub mod Given
 pub mod Theorem
 pub mod Headline
 pub mod Done
 pub mod Ran
 pub mod Complete
+pub mod Outcome

@@ -5,6 +5,7 @@ use Rattle.pm_base.specs.declared.errors.Exit.TheVariants as exit
 use Rattle.pm_base.specs.declared.events.Event.{Event}
 use Rattle.pm_io.specs.declared.inputs.Inputs as Inputs
 use Rattle.pm_io.specs.declared.sink.Sink as Sink
+use Rattle.pm_io.specs.Calls.{Call}
 use Rattle.pm_io.specs.Inputs.{Moment, MayFail}
 use Rattle.pm_object.specs.declared.object.Object.{Object}
 use Rattle.pm_object.specs.Grammar.{IsObject}
@@ -37,7 +38,8 @@ use Rattle.pm_top.specs.Fit.{HoldsTopology, IsFitted, LeftBy}
 use Rattle.pm_top.specs.Form.{form}
 use Rattle.pm_top.specs.Words.{word}
 use Rattle.pm_top.specs.Asked.{Asked, Begins, asked_of, lines_by, object_limit, script_turn, text_limit, topology_limit}
-use Rattle.pm_top.specs.Job.{IsAsked, Job}
+use Rattle.pm_top.specs.Called.{asked_given, topology_given}
+use Rattle.pm_top.specs.Job.{IsAsked, IsJobFor, Job}
 use Rattle.pm_top.specs.Done.{report}
 use Rattle.pm_top.specs.Making.{WasDriven}
 
@@ -85,18 +87,35 @@ module _ {D : Type 0} (d : Device.Ghosts D) where
 abbrev pub nothing_to_do : ⊤ → List (List Bool) → Report
 nothing_to_do job answers = record { body = []; fault = None }
 
+module _ {O D : Type 0} (o : Sink.Ghosts O) (d : Device.Ghosts D) where
+  -- words without a form were refused
+  abbrev pub Refused : Standing → Standing → O → O → D → D → Exit → Type 0
+  Refused board is sink sink' device device' result =
+      Did o (λ job. job ≡ Err Usage) nothing_to_do (λ job answers cut. (device ≡ device') × (board ≡ is)) sink sink' result
+
+  -- a form was carried out: the job that is asked for, how much of it was written, and the effects on the device and
+  -- the tasks; a named topology is one of which this holds
+  abbrev pub RanAs : Form → List (List ℕ) → Standing → Standing → (Result Job Fault → Type 0) → (Topology → Type 0) → O → O → D → D → Exit → Type 0
+  RanAs f ws board is IsAsked Named sink sink' device device' result =
+      Did o IsAsked (report board f.work) (Touches d f ws board is Named device device') sink sink' result
+
+  -- so by what all calls gave
+  abbrev pub RanGiven : Option Form → List (List ℕ) → Standing → Standing → List Call → O → O → D → D → Exit → Type 0
+  RanGiven None ws board is calls sink sink' device device' result = Refused board is sink sink' device device' result
+  RanGiven (Some f) ws board is calls sink sink' device device' result =
+      RanAs f ws board is (IsJobFor f (asked_given f ws calls)) (λ topology. topology_given f calls ≡ Ok topology)
+      sink sink' device device' result
+
 module _ {I O D : Type 0} (i : Inputs.Ghosts I) (o : Sink.Ghosts O) (d : Device.Ghosts D) where
   -- a topology is the one that a form asks for, by what the inputs show
   abbrev pub IsShown : Form → List (List ℕ) → World I O D → Topology → Type 0
   IsShown f ws w topology = i.observable → HoldsTopology f.topology ws (i.state w.inputs) topology
 
-  -- what was asked for, how much of it was written, and what was done to the device and to the tasks, by the form
+  -- the same by what the inputs show
   abbrev pub RanForm : Option Form → List (List ℕ) → Standing → Standing → World I O D → World I O D → Exit → Type 0
-  RanForm None ws board is w w' result =
-      Did o (λ job. job ≡ Err Usage) nothing_to_do (λ job answers cut. (w.device ≡ w'.device) × (board ≡ is)) w.sink w'.sink result
+  RanForm None ws board is w w' result = Refused o d board is w.sink w'.sink w.device w'.device result
   RanForm (Some f) ws board is w w' result =
-      Did o (IsAsked i f ws w.inputs w'.inputs result) (report board f.work) (Touches d f ws board is (IsShown f ws w) w.device w'.device)
-      w.sink w'.sink result
+      RanAs o d f ws board is (IsAsked i f ws w.inputs w'.inputs result) (IsShown f ws w) w.sink w'.sink w.device w'.device result
 
   -- so by the words
   abbrev pub Ran : List (List ℕ) → Standing → Standing → World I O D → World I O D → Exit → Type 0
@@ -167,6 +186,18 @@ module _ {O : Type 0} (o : Sink.Ghosts O) where
   -- the exit of the words
   abbrev pub Decides : List (List ℕ) → Moment → O → O → Exit → Type 0
   Decides ws m old new result = FormDecides (form ws) ws m old new result
+
+-- the exit of what all calls gave; for words without a form it is Usage
+abbrev pub exit_given : Option Form → List (List ℕ) → List Call → Exit
+exit_given None ws calls = exit.Usage
+exit_given (Some f) ws calls = job_exit (asked_given f ws calls)
+
+module _ {O : Type 0} (o : Sink.Ghosts O) where
+  -- the exit follows from what all calls gave, unless memory runs out or the sink fails; words without a form end with
+  -- Usage
+  abbrev pub DecidesGiven : Option Form → List (List ℕ) → List Call → O → O → Exit → Type 0
+  DecidesGiven None ws calls old new result = result ≡ exit.Usage
+  DecidesGiven (Some f) ws calls old new result = EndsWith o (exit_given (Some f) ws calls) old new result
 
 -- memory runs out before anything is done to the device, unless the run is kept in memory, or the device is fitted
 -- first

@@ -9,15 +9,15 @@ ghost use Rattle.pm_trace.specs.Exits.{IsStarved};
 ghost use Rattle.pm_io.specs.World.{world};
 ghost use Rattle.pm_board.specs.Standing.{standing};
 ghost use Rattle.pm_top.specs.Complete.{IsComplete};
-ghost use Rattle.pm_top.specs.Done.{IsDone, WorkDone};
+ghost use Rattle.pm_top.specs.Done.{DoneBy, IsDone, WorkDone, WorkDoneBy};
 ghost use Rattle.pm_top.specs.declared.works.Work.TheVariants.{Replay};
 ghost use Rattle.pm_top.specs.Fit.{IsSafeRun};
 ghost use Rattle.pm_top.specs.Given.{GaveEach, HoldsEach};
 ghost use Rattle.pm_top.specs.Headline.{Headline};
-ghost use Rattle.pm_top.specs.Theorem.{IsReplayedBy};
+ghost use Rattle.pm_top.specs.Outcome.{Outcome};
 ghost use Rattle.pm_top.specs.Form.{form, form_of, over, request_of, topology_in};
 ghost use Rattle.pm_top.specs.Reads.{FormReads};
-ghost use Rattle.pm_top.specs.Ran.{Decides, DroveRun, EachEmptiesBoxes, EachFollowsClocks, EachHasCauses, EachKeepsApart, EachLowersCalls, EachTellsCalls, InputsMayFail, IsBeforeRun, Ran, RanForm};
+ghost use Rattle.pm_top.specs.Ran.{Decides, DroveRun, EachEmptiesBoxes, EachFollowsClocks, EachHasCauses, EachKeepsApart, EachLowersCalls, EachTellsCalls, InputsMayFail, IsBeforeRun, Ran, RanForm, RanGiven};
 
 use crate::reading::{read_subject, script_word};
 use crate::works::{Request, do_work, form_of, request_of};
@@ -81,12 +81,12 @@ pub fn pm_main<I: Inputs, O: Sink, D: Device, H: Responder, T: Handler>(
         → request_of (map string_bytes words.now) ≡ Some (over named Replay)
         → Headline O.Sink D.Device (HoldsEach (I.state inputs.old)) named (map string_bytes words.now)
         (standing H.Responder T.Handler modules.now tasks.old) out.old out.new dev.old dev.new }
-    // For any inputs, it holds for the bytes that their calls gave.
-    ensures given { O.observable → (named : Option ℕ) → result ≡ Exit.Done
-        → request_of (map string_bytes words.now) ≡ Some (over named Replay)
-        → Meanwhile (I.state inputs.old) (I.state inputs.new) (λ calls.
-        Headline O.Sink D.Device (GaveEach calls) named (map string_bytes words.now)
-        (standing H.Responder T.Handler modules.now tasks.old) out.old out.new dev.old dev.new) }
+    // On every exit, for any inputs: the result of the run by what all their calls gave. That decides the exit; on Done
+    // it is right and the whole text was written; and on Done of `replay` the headline holds for it.
+    ensures given { Meanwhile (I.state inputs.old) (I.state inputs.new) (λ calls.
+        Outcome O.Sink D.Device (map string_bytes words.now)
+        (standing H.Responder T.Handler modules.now tasks.old)
+        (standing H.Responder T.Handler modules.now tasks.new) calls out.old out.new dev.old dev.new result) }
     // Usage comes exactly if the words have no form.
     ensures usage { (result ≡ Exit.Usage) ↔ (form (map string_bytes words.now) ≡ None) }
     // On Done of `replay`, whatever the inputs and the sink show, the device was driven through the whole run of a
@@ -186,12 +186,15 @@ fn run_board<I: Inputs, O: Sink, D: Device, H: Responder, T: Handler>(
         (standing H.Responder T.Handler modules.now tasks.old)
         (standing H.Responder T.Handler modules.now tasks.new)
         (world inputs.old out.old dev.old) (world inputs.new out.new dev.new) }
-    ensures given { O.observable → (named : Option ℕ) → result ≡ Exit.Done
-        → request_of (map string_bytes words.now) ≡ Some (over named Replay)
+    ensures gave { O.observable → result ≡ Exit.Done
         → Meanwhile (I.state inputs.old) (I.state inputs.new) (λ calls.
-        IsReplayedBy O.Sink D.Device (GaveEach calls) named (map string_bytes words.now)
+        DoneBy O.Sink D.Device (GaveEach calls) (request_of (map string_bytes words.now)) (map string_bytes words.now)
         (standing H.Responder T.Handler modules.now tasks.old)
         (standing H.Responder T.Handler modules.now tasks.new) out.old out.new dev.old dev.new) }
+    ensures given { Meanwhile (I.state inputs.old) (I.state inputs.new) (λ calls.
+        RanGiven O.Sink D.Device (form (map string_bytes words.now)) (map string_bytes words.now)
+        (standing H.Responder T.Handler modules.now tasks.old)
+        (standing H.Responder T.Handler modules.now tasks.new) calls out.old out.new dev.old dev.new result) }
     ensures safe { IsSafeRun D.Device (topology_in (map string_bytes words.now)) dev.old dev.new }
     ensures ran { Ran I.Inputs O.Sink D.Device (map string_bytes words.now)
         (standing H.Responder T.Handler modules.now tasks.old)
@@ -224,12 +227,16 @@ fn run_words<I: Inputs, O: Sink, D: Device, H: Responder, T: Handler>(
         (standing H.Responder T.Handler board.old.modules.now board.old.tasks)
         (standing H.Responder T.Handler board.old.modules.now board.new.tasks)
         (world inputs.old out.old dev.old) (world inputs.new out.new dev.new) }
-    ensures given { O.observable → (named : Option ℕ) → result ≡ Exit.Done
-        → request_of (map string_bytes words.now) ≡ Some (over named Replay)
+    ensures gave { O.observable → result ≡ Exit.Done
         → Meanwhile (I.state inputs.old) (I.state inputs.new) (λ calls.
-        IsReplayedBy O.Sink D.Device (GaveEach calls) named (map string_bytes words.now)
+        DoneBy O.Sink D.Device (GaveEach calls) (request_of (map string_bytes words.now)) (map string_bytes words.now)
         (standing H.Responder T.Handler board.old.modules.now board.old.tasks)
         (standing H.Responder T.Handler board.old.modules.now board.new.tasks) out.old out.new dev.old dev.new) }
+    ensures given { Meanwhile (I.state inputs.old) (I.state inputs.new) (λ calls.
+        RanGiven O.Sink D.Device (form (map string_bytes words.now)) (map string_bytes words.now)
+        (standing H.Responder T.Handler board.old.modules.now board.old.tasks)
+        (standing H.Responder T.Handler board.old.modules.now board.new.tasks)
+        calls out.old out.new dev.old dev.new result) }
     ensures safe { IsSafeRun D.Device (topology_in (map string_bytes words.now)) dev.old dev.new }
     ensures ran { Ran I.Inputs O.Sink D.Device (map string_bytes words.now)
         (standing H.Responder T.Handler board.old.modules.now board.old.tasks)
@@ -260,11 +267,16 @@ fn run_request<I: Inputs, O: Sink, D: Device, H: Responder, T: Handler>(
         (standing H.Responder T.Handler board.old.modules.now board.old.tasks)
         (standing H.Responder T.Handler board.old.modules.now board.new.tasks)
         (world inputs.old out.old dev.old) (world inputs.new out.new dev.new) }
-    ensures given { O.observable → result ≡ Exit.Done → request.work ≡ Replay
+    ensures gave { O.observable → result ≡ Exit.Done
         → Meanwhile (I.state inputs.old) (I.state inputs.new) (λ calls.
-        IsReplayedBy O.Sink D.Device (GaveEach calls) request.topology (map string_bytes words.now)
+        WorkDoneBy O.Sink D.Device (GaveEach calls) request.work request.topology (map string_bytes words.now)
         (standing H.Responder T.Handler board.old.modules.now board.old.tasks)
         (standing H.Responder T.Handler board.old.modules.now board.new.tasks) out.old out.new dev.old dev.new) }
+    ensures given { Meanwhile (I.state inputs.old) (I.state inputs.new) (λ calls.
+        RanGiven O.Sink D.Device (Some (form_of request.work request.topology)) (map string_bytes words.now)
+        (standing H.Responder T.Handler board.old.modules.now board.old.tasks)
+        (standing H.Responder T.Handler board.old.modules.now board.new.tasks)
+        calls out.old out.new dev.old dev.new result) }
     ensures safe { IsSafeRun D.Device request.topology dev.old dev.new }
     ensures ran { RanForm I.Inputs O.Sink D.Device (Some (form_of request.work request.topology))
         (map string_bytes words.now)

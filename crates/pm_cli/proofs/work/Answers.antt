@@ -1,6 +1,5 @@
+use Rattle.std.proofs.Common.{inr}
 use Rattle.pm_cli.proofs.work.Goals as goal
 
-pub returns-clause-replayed : goal.returns-clause-replayed
-returns-clause-replayed g c = λ named done is.
-    let run = c.run_on.ensures.replayed named done is in
-    (run.calls, c.run_on.new.out.out.bytes, run.are)
+pub returns-clause-ran : goal.returns-clause-ran
+returns-clause-ran g c = inr (_, c.run_on.new.out.out, c.run_on.ensures.given)

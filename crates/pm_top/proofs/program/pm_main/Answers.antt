@@ -1,18 +1,17 @@
 use Rattle.std.proofs.Common.{Option, map, string_bytes, subst}
 use Rattle.pm_io.specs.World.{world}
-use Rattle.pm_io.proofs.ReadingsLemmas.{meanwhile_map}
 use Rattle.pm_block.specs.Block.{passed}
 use Rattle.pm_run.specs.Run.{setup, setup_for}
 use Rattle.pm_run.proofs.FormedLemmas.{objects_formed}
 use Rattle.pm_top.specs.declared.works.Request.{Request}
 use Rattle.pm_top.specs.Done.{DoneIf}
-use Rattle.pm_top.specs.Given.{GaveEach, HoldsEach}
-use Rattle.pm_top.specs.Headline.{Headline}
-use Rattle.pm_top.specs.Theorem.{IsReplayed, IsReplayedBy}
+use Rattle.pm_top.specs.Given.{HoldsEach}
+use Rattle.pm_top.specs.Theorem.{IsReplayed}
 use Rattle.pm_top.proofs.CompleteLemmas.{is_complete}
 use Rattle.pm_top.proofs.DroveLemmas.{replay_drove}
 use Rattle.pm_top.proofs.HeadlineLaw.{HeadlineLaws, replayed_headline}
-use Rattle.pm_top.proofs.MainLemmas.{decides, memory, read_cause, reading_fault, unfailing, untouched, usage, writing_fault}
+use Rattle.pm_top.proofs.MainLemmas.{decides, decides_given, memory, read_cause, reading_fault, unfailing, untouched, usage, writing_fault}
+use Rattle.pm_top.proofs.OutcomeLaw.{outcome}
 use Rattle.pm_board.specs.Standing.{standing}
 use Rattle.pm_top.proofs.program.pm_main.Goals as goal
 
@@ -37,7 +36,7 @@ returns-clause-headline g c = λ seen written named done is.
     replayed_headline g.O.Sink g.D.Device laws (HoldsEach (g.I.Inputs.state w.inputs)) named (map string_bytes c.args.words.now) found left w.sink w'.sink w.device w'.device run
 
 pub returns-clause-given : goal.returns-clause-given
-returns-clause-given g c = λ written named done is.
+returns-clause-given g c =
     let laws : HeadlineLaws g.D.Device = record {
       kinds = c.kinds_are_exact.ensures;
       exact = c.reach_is_closed.ensures.exact;
@@ -49,11 +48,12 @@ returns-clause-given g c = λ written named done is.
     let ws = map string_bytes c.args.words.now in
     let found = standing g.H.Responder g.T.Handler c.args.modules.now c.args.tasks.now in
     let left = standing g.H.Responder g.T.Handler c.args.modules.now c.run_board.new.tasks in
-    meanwhile_map (g.I.Inputs.state c.args.inputs.now) (g.I.Inputs.state c.run_board.new.inputs)
-    (λ calls. IsReplayedBy g.O.Sink g.D.Device (GaveEach calls) named ws found left c.args.out.now c.run_board.new.out c.args.dev.now c.run_board.new.dev)
-    (λ calls. Headline g.O.Sink g.D.Device (GaveEach calls) named ws found c.args.out.now c.run_board.new.out c.args.dev.now c.run_board.new.dev)
-    (λ calls run. replayed_headline g.O.Sink g.D.Device laws (GaveEach calls) named ws found left c.args.out.now c.run_board.new.out c.args.dev.now c.run_board.new.dev run)
-    (c.run_board.ensures.given written named done is)
+    let w = world c.args.inputs.now c.args.out.now c.args.dev.now in
+    let w' = world c.run_board.new.inputs c.run_board.new.out c.run_board.new.dev in
+    outcome g.O.Sink g.D.Device ws found left (g.I.Inputs.state w.inputs) (g.I.Inputs.state w'.inputs) w.sink w'.sink w.device w'.device c.run_board.result
+    c.one_reading.ensures.written (λ text object. (c.one_meaning.ensures.built text object).1) laws
+    (decides_given g.I.Inputs g.O.Sink c.exits_say.ensures g.D.Device ws found left w w' c.run_board.result)
+    c.run_board.ensures.begun c.run_board.ensures.given c.run_board.ensures.gave
 
 pub returns-clause-usage : goal.returns-clause-usage
 returns-clause-usage g c = usage g.I.Inputs g.O.Sink c.exits_say.ensures g.D.Device (map string_bytes c.args.words.now) (standing g.H.Responder g.T.Handler c.args.modules.now c.args.tasks.now) (standing g.H.Responder g.T.Handler c.args.modules.now c.run_board.new.tasks) (world c.args.inputs.now c.args.out.now c.args.dev.now) (world c.run_board.new.inputs c.run_board.new.out c.run_board.new.dev) c.run_board.result c.run_board.ensures.ran

@@ -8,17 +8,18 @@ use Rattle.pm_trace.specs.declared.faults.Fault.{Fault}
 use Rattle.pm_trace.specs.declared.faults.Fault.TheVariants.{Memory}
 use Rattle.pm_board.specs.Standing.{standing}
 use Rattle.pm_top.specs.declared.works.Form.{Form}
-use Rattle.pm_top.specs.declared.works.Work.{Work}
-use Rattle.pm_top.specs.declared.works.Work.TheVariants.{Replay}
 use Rattle.pm_top.specs.declared.reading.Subject.{Subject}
 use Rattle.pm_top.specs.Asked.{script_word}
 use Rattle.pm_top.specs.Done.{Worked}
 use Rattle.pm_top.specs.Form.{form_of}
 use Rattle.pm_top.specs.Within.{ReadsSubject}
 use Rattle.pm_top.proofs.FitLemmas.{still_safe}
-use Rattle.pm_top.proofs.GivenLaw.{replay_given}
+use Rattle.pm_top.proofs.DoneHeld.{worked_done}
+use Rattle.pm_top.proofs.DoneLaw.{never_refused}
+use Rattle.pm_top.proofs.GivenLaw.{worked_gave}
 use Rattle.pm_top.proofs.SubjectLemmas.{is_chip, known_read, plain, was_read}
-use Rattle.pm_top.proofs.WorkLemmas.{subject_refused, worked_done, worked_ran}
+use Rattle.pm_top.proofs.WorkGiven.{refused_given, worked_given}
+use Rattle.pm_top.proofs.WorkLemmas.{subject_refused, worked_ran}
 use Rattle.pm_top.specs.Words.{word}
 use Rattle.pm_top.specs.Reads.{RefusedSubject, WorkReads, source_named, topology_named}
 use Rattle.pm_top.proofs.ReadsLemmas.{work_read, work_refused}
@@ -46,7 +47,7 @@ returns-in-Ok-clause-done g c = λ seen written is.
     let reads = known_read c.in-Ok.subject (subst R c.form_of-form.ensures c.in-Ok.ensures.read) in
     let N : Form → Type 0 = λ f. c.script_word.result.now ≡ script_word f.script (map string_bytes c.args.words.now) in
     let W : List ℕ → Type 0 = λ name. Worked g.I.Inputs g.O.Sink g.D.Device c.args.request.work c.args.request.topology c.in-Ok.subject (standing g.H.Responder g.T.Handler c.args.board.now.modules.now c.args.board.now.tasks) (standing g.H.Responder g.T.Handler c.args.board.now.modules.now c.do_work.new.board.tasks) name (world c.read_subject.new.inputs c.args.out.now c.args.dev.now) (world c.do_work.new.inputs c.do_work.new.out c.do_work.new.dev) c.do_work.result in
-    worked_done g.I.Inputs g.O.Sink g.D.Device (map string_bytes c.args.words.now) (standing g.H.Responder g.T.Handler c.args.board.now.modules.now c.args.board.now.tasks) (standing g.H.Responder g.T.Handler c.args.board.now.modules.now c.do_work.new.board.tasks) c.args.inputs.now c.read_subject.new.inputs c.do_work.new.inputs c.args.out.now c.do_work.new.out c.args.dev.now c.do_work.new.dev c.do_work.result seen written is c.args.request.work c.args.request.topology c.in-Ok.subject reads (subst W (subst N c.form_of-form.ensures c.script_word.ensures) c.do_work.ensures.worked)
+    worked_done g.I.Inputs g.O.Sink g.D.Device (map string_bytes c.args.words.now) (standing g.H.Responder g.T.Handler c.args.board.now.modules.now c.args.board.now.tasks) (standing g.H.Responder g.T.Handler c.args.board.now.modules.now c.do_work.new.board.tasks) c.args.inputs.now c.read_subject.new.inputs c.do_work.new.inputs c.args.out.now c.do_work.new.out c.args.dev.now c.do_work.new.dev c.do_work.result seen written is c.in-Ok.subject c.args.request.work c.args.request.topology reads (subst W (subst N c.form_of-form.ensures c.script_word.ensures) c.do_work.ensures.worked)
 
 pub returns-in-Ok-clause-ran : goal.returns-in-Ok-clause-ran
 returns-in-Ok-clause-ran g c =
@@ -84,21 +85,36 @@ pub returns-in-Err-clause-safe : goal.returns-in-Err-clause-safe
 returns-in-Err-clause-safe g c = still_safe g.D.Device _ c.args.dev.now c.args.dev.now refl
 
 pub returns-in-Ok-clause-given : goal.returns-in-Ok-clause-given
-returns-in-Ok-clause-given g c = λ written is work.
+returns-in-Ok-clause-given g c =
     let ws = map string_bytes c.args.words.now in
-    let old = c.args.inputs.now in
-    let mid = c.read_subject.new.inputs in
-    let new = c.do_work.new.inputs in
     let found = standing g.H.Responder g.T.Handler c.args.board.now.modules.now c.args.board.now.tasks in
     let left = standing g.H.Responder g.T.Handler c.args.board.now.modules.now c.do_work.new.board.tasks in
-    let topology = c.args.request.topology in
-    let R : Form → Type 0 = λ f. (◌≡◌ {A = Result Subject Fault} (Ok c.in-Ok.subject) (Err Memory)) ⊎ ReadsSubject g.I.Inputs.observable f ws (g.I.Inputs.state old) (g.I.Inputs.state mid) (Ok c.in-Ok.subject) in
+    let R : Form → Type 0 = λ f. (◌≡◌ {A = Result Subject Fault} (Ok c.in-Ok.subject) (Err Memory)) ⊎ ReadsSubject g.I.Inputs.observable f ws (g.I.Inputs.state c.args.inputs.now) (g.I.Inputs.state c.read_subject.new.inputs) (Ok c.in-Ok.subject) in
     let reads = known_read c.in-Ok.subject (subst R c.form_of-form.ensures c.in-Ok.ensures.read) in
     let N : Form → Type 0 = λ f. c.script_word.result.now ≡ script_word f.script ws in
-    let W : List ℕ → Type 0 = λ name. Worked g.I.Inputs g.O.Sink g.D.Device c.args.request.work topology c.in-Ok.subject found left name (world mid c.args.out.now c.args.dev.now) (world new c.do_work.new.out c.do_work.new.dev) c.do_work.result in
-    let Both : Work → Type 0 = λ work.
-    ReadsSubject g.I.Inputs.observable (form_of work topology) ws (g.I.Inputs.state old) (g.I.Inputs.state mid) (Ok c.in-Ok.subject)
-    × Worked g.I.Inputs g.O.Sink g.D.Device work topology c.in-Ok.subject found left (script_word (form_of work topology).script ws) (world mid c.args.out.now c.args.dev.now) (world new c.do_work.new.out c.do_work.new.dev) c.do_work.result
-    in
-    let both : Both Replay = subst Both work (reads, subst W (subst N c.form_of-form.ensures c.script_word.ensures) c.do_work.ensures.worked) in
-    replay_given g.I.Inputs g.O.Sink g.D.Device ws found left old mid new c.args.out.now c.do_work.new.out c.args.dev.now c.do_work.new.dev c.do_work.result written is topology c.in-Ok.subject both.0 both.1
+    let W : List ℕ → Type 0 = λ name. Worked g.I.Inputs g.O.Sink g.D.Device c.args.request.work c.args.request.topology c.in-Ok.subject found left name (world c.read_subject.new.inputs c.args.out.now c.args.dev.now) (world c.do_work.new.inputs c.do_work.new.out c.do_work.new.dev) c.do_work.result in
+    worked_given g.I.Inputs g.O.Sink g.D.Device ws found left c.args.inputs.now c.read_subject.new.inputs c.do_work.new.inputs c.args.out.now c.do_work.new.out c.args.dev.now c.do_work.new.dev c.do_work.result c.args.request.work c.args.request.topology c.in-Ok.subject reads (subst W (subst N c.form_of-form.ensures c.script_word.ensures) c.do_work.ensures.worked)
+
+pub returns-in-Ok-clause-gave : goal.returns-in-Ok-clause-gave
+returns-in-Ok-clause-gave g c = λ written is.
+    let ws = map string_bytes c.args.words.now in
+    let found = standing g.H.Responder g.T.Handler c.args.board.now.modules.now c.args.board.now.tasks in
+    let left = standing g.H.Responder g.T.Handler c.args.board.now.modules.now c.do_work.new.board.tasks in
+    let R : Form → Type 0 = λ f. (◌≡◌ {A = Result Subject Fault} (Ok c.in-Ok.subject) (Err Memory)) ⊎ ReadsSubject g.I.Inputs.observable f ws (g.I.Inputs.state c.args.inputs.now) (g.I.Inputs.state c.read_subject.new.inputs) (Ok c.in-Ok.subject) in
+    let reads = known_read c.in-Ok.subject (subst R c.form_of-form.ensures c.in-Ok.ensures.read) in
+    let N : Form → Type 0 = λ f. c.script_word.result.now ≡ script_word f.script ws in
+    let W : List ℕ → Type 0 = λ name. Worked g.I.Inputs g.O.Sink g.D.Device c.args.request.work c.args.request.topology c.in-Ok.subject found left name (world c.read_subject.new.inputs c.args.out.now c.args.dev.now) (world c.do_work.new.inputs c.do_work.new.out c.do_work.new.dev) c.do_work.result in
+    worked_gave g.I.Inputs g.O.Sink g.D.Device ws found left c.args.inputs.now c.read_subject.new.inputs c.do_work.new.inputs c.args.out.now c.do_work.new.out c.args.dev.now c.do_work.new.dev c.do_work.result written is c.in-Ok.subject c.args.request.work c.args.request.topology reads (subst W (subst N c.form_of-form.ensures c.script_word.ensures) c.do_work.ensures.worked)
+
+pub returns-in-Err-clause-given : goal.returns-in-Err-clause-given
+returns-in-Err-clause-given g c =
+    let ws = map string_bytes c.args.words.now in
+    let old = g.I.Inputs.state c.args.inputs.now in
+    let mid = g.I.Inputs.state c.read_subject.new.inputs in
+    let board = standing g.H.Responder g.T.Handler c.args.board.now.modules.now c.args.board.now.tasks in
+    let R : Form → Type 0 = λ f. (◌≡◌ {A = Result Subject Fault} (Err c.in-Err.fault) (Err Memory)) ⊎ ReadsSubject g.I.Inputs.observable f ws old mid (Err c.in-Err.fault) in
+    refused_given g.O.Sink g.D.Device ws board board c.args.out.now c.refuse.new.out c.args.dev.now c.args.dev.now c.refuse.result g.I.Inputs.observable (form_of c.args.request.work c.args.request.topology) old mid c.in-Err.fault _ c.in-Err.ensures.begun
+    (subst R c.form_of-form.ensures c.in-Err.ensures.read) refl refl c.refuse.ensures
+
+pub returns-in-Err-clause-gave : goal.returns-in-Err-clause-gave
+returns-in-Err-clause-gave g c = λ written is. absurd (never_refused g.O.Sink c.in-Err.fault c.args.out.now c.refuse.new.out c.refuse.result is c.refuse.ensures)
