@@ -30,7 +30,7 @@ use Rattle.pm_laws.specs.Border.{Border, none_within}
 use Rattle.pm_laws.specs.Callbacks.{is_callback_beyond}
 use Rattle.pm_laws.specs.Hidden.{is_within}
 use Rattle.pm_laws.specs.Quiet.{quiet}
-use Rattle.pm_laws.specs.ReachBorder.{border_of, place_of}
+use Rattle.pm_laws.specs.ReachBorder.{border_of, configured_place}
 use Rattle.pm_laws.specs.Told.{callbacks_in, drops_in, is_others, starts_in}
 use Rattle.pm_laws.specs.Values.{is_beyond}
 use Rattle.pm_laws.specs.Worlds.{AreWorldsAlike, IsLineAlike}
@@ -152,10 +152,10 @@ module _ (c : Setup) (m : NodeId) (events : List Event) (alike : AreWorldsAlike 
   start_beyond start = is_beyond c.object c.topology border (Node start.proc)
 
   abbrev call_beyond : Callback → Bool
-  call_beyond call = not (is_within border (place_of c.object call.master)) && is_call border call.id (slice_index call.args 0)
+  call_beyond call = not (is_within border (configured_place c.object call.master)) && is_call border call.id (slice_index call.args 0)
 
   abbrev sender_beyond : NodeId → Bool
-  sender_beyond master = not (master.0 == m.0) && none_within border (place_of c.object master)
+  sender_beyond master = not (master.0 == m.0) && none_within border (configured_place c.object master)
 
   abbrev tells : Tells → List Word → Bool
   tells Starts line = tells_start c border line
@@ -259,7 +259,7 @@ module _ (c : Setup) (m : NodeId) (events : List Event) (alike : AreWorldsAlike 
   no_call (Reply master response) = refl
   no_call (Ack master node status point false) = refl
   no_call (Ack master node status point true) =
-      left_out (tells_of Calls) (told.Call (acknowledgement master node status point)) [] (fails_anyway (not (is_within border (place_of c.object master))))
+      left_out (tells_of Calls) (told.Call (acknowledgement master node status point)) [] (fails_anyway (not (is_within border (configured_place c.object master))))
 
   -- a callback that asks a master to suspend, or notifies it
   abbrev is_news : Callback → Bool
@@ -278,7 +278,7 @@ module _ (c : Setup) (m : NodeId) (events : List Event) (alike : AreWorldsAlike 
   by_both (call ∷ calls) = at (is_callback_beyond c.object border call) refl (by_both calls)
     where
       same : call_beyond call ≡ (is_callback_beyond c.object border call && is_news call)
-      same = split_test (not (is_within border (place_of c.object call.master))) (call.id == init_suspend) (border.node (slice_index call.args 0)) (call.id == notify)
+      same = split_test (not (is_within border (configured_place c.object call.master))) (call.id == init_suspend) (border.node (slice_index call.args 0)) (call.id == notify)
 
       beyond : List Callback
       beyond = filter (is_callback_beyond c.object border) calls

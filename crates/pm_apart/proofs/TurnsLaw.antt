@@ -1,6 +1,6 @@
 -- The lines of clocks beyond the reach of a master are those of the run without its messages.
 use Rattle.std.proofs.Common.{◌≡◌, ℕ, ℤ, zero, suc, ◌+◌, ◌==◌, ◌&&◌, Bool, true, false, List, [], ◌∷◌, ◌++◌, take, Option, Some, None, refl, ap, sym, ◌∙◌}
-use Rattle.std.specs.Prelude.{⊤, filter, flat_map, if◌then◌else◌, is_some, map, not}
+use Rattle.std.specs.Prelude.{⊤, filter, flat_map, if◌then◌else◌, is_some, map, not, option_to_list}
 use Rattle.std.specs.List.{AllByRecursion as Each}
 use Rattle.std.proofs.lemmas.Bool.{eqb-true}
 use Rattle.std.proofs.lemmas.List.{map-append}
@@ -16,8 +16,8 @@ use Rattle.pm_psci.specs.Answers.{answered}
 use Rattle.pm_board.specs.Board.{Standing, board_after}
 use Rattle.pm_clock_tree.specs.declared.clock_tree.ClockChange.{ClockChange}
 use Rattle.pm_clock_tree.specs.declared.table.ClockDef.{ClockDef}
-use Rattle.pm_clock_tree.specs.Table.{clocks, place_of}
-use Rattle.pm_clock_tree.specs.Told.{Clocked, change, change_at, listed, same as is_same, was_running}
+use Rattle.pm_clock_tree.specs.Table.{clock_place, clocks}
+use Rattle.pm_clock_tree.specs.Told.{Clocked, change, change_at, same as is_same, was_running}
 use Rattle.pm_clock_tree.specs.Tree.{Tree, running, runs}
 use Rattle.pm_split.specs.Split.{Note, call, called_note, noted_answer}
 use Rattle.pm_split.specs.Split.Note.{Busy, Called, Clock, NoTask, Fired, Late}
@@ -152,12 +152,12 @@ module _ (number : ℕ) where
     -- ---- the lines of changes
 
     abbrev change_lines : Option ClockChange → List (List Word)
-    change_lines found = note_lines n (map clock_note (listed found))
+    change_lines found = note_lines n (map clock_note (option_to_list found))
 
     -- none of another clock's
     other_clock : (clock : ℕ) (clocked : Clocked) → (clock == number) ≡ false → filter (tells_clock number) (change_lines (change_at clock clocked)) ≡ []
     other_clock clock clocked other =
-        by (is_some (place_of clock) && not (is_same (was_running clock clocked) (runs clock clocked.tree)))
+        by (is_some (clock_place clock) && not (is_same (was_running clock clocked) (runs clock clocked.tree)))
       where
         from : Bool
         from = was_running clock clocked
@@ -189,17 +189,17 @@ module _ (number : ℕ) where
         ap (map (noted_line n)) (map-append clock_note first later) ∙ map-append (noted_line n) (map clock_note first) (map clock_note later)
 
     all_alike : (a b : Clocked) → change_at number a ≡ change_at number b → (defs : List ClockDef)
-        → filter (tells_clock number) (note_lines n (map clock_note (flat_map (λ (def : ClockDef). listed (change_at def.number a)) defs)))
-        ≡ filter (tells_clock number) (note_lines n (map clock_note (flat_map (λ (def : ClockDef). listed (change_at def.number b)) defs)))
+        → filter (tells_clock number) (note_lines n (map clock_note (flat_map (λ (def : ClockDef). option_to_list (change_at def.number a)) defs)))
+        ≡ filter (tells_clock number) (note_lines n (map clock_note (flat_map (λ (def : ClockDef). option_to_list (change_at def.number b)) defs)))
     all_alike a b same [] = refl
     all_alike a b same (def ∷ defs) =
-        let later_a : List ClockChange = flat_map (λ (d : ClockDef). listed (change_at d.number a)) defs in
-        let later_b : List ClockChange = flat_map (λ (d : ClockDef). listed (change_at d.number b)) defs in
-        ap (filter (tells_clock number)) (joined (listed (change_at def.number a)) later_a)
+        let later_a : List ClockChange = flat_map (λ (d : ClockDef). option_to_list (change_at d.number a)) defs in
+        let later_b : List ClockChange = flat_map (λ (d : ClockDef). option_to_list (change_at d.number b)) defs in
+        ap (filter (tells_clock number)) (joined (option_to_list (change_at def.number a)) later_a)
         ∙ (parts_alike (tells_clock number) (change_lines (change_at def.number a)) (note_lines n (map clock_note later_a))
         (change_lines (change_at def.number b)) (note_lines n (map clock_note later_b))
         (one_alike a b same def.number) (all_alike a b same defs)
-        ∙ sym (ap (filter (tells_clock number)) (joined (listed (change_at def.number b)) later_b)))
+        ∙ sym (ap (filter (tells_clock number)) (joined (option_to_list (change_at def.number b)) later_b)))
 
   -- ---- in two runs
 

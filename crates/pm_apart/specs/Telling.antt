@@ -3,6 +3,7 @@
 -- full boxes of other masters, and of timed tasks. A reply or an acknowledgement doesn't show in its words whether it
 -- is an answer or comes late; for these the relation of core steps speaks.
 use Rattle.std.specs.Prelude.{◌≡◌, ℕ, ◌==◌, Bool, false, not, ◌&&◌, ◌||◌, codes, List, [], ◌∷◌, filter, Option}
+use Rattle.pm_base.specs.Names.{numbered_node}
 use Rattle.pm_base.specs.declared.events.Event.{Event}
 use Rattle.pm_base.specs.declared.names.NodeId.{NodeId}
 use Rattle.pm_base.specs.declared.names.Unit.TheVariants.{Node}
@@ -12,7 +13,7 @@ use Rattle.pm_run.specs.Run.{Setup, fixed_of}
 use Rattle.pm_laws.specs.Border.{Border, none_within}
 use Rattle.pm_laws.specs.Hidden.{is_within}
 use Rattle.pm_laws.specs.Quiet.{quiet}
-use Rattle.pm_laws.specs.ReachBorder.{border_of, place_of}
+use Rattle.pm_laws.specs.ReachBorder.{border_of, configured_place}
 use Rattle.pm_laws.specs.Values.{is_beyond}
 use Rattle.pm_clock_laws.specs.Reach.{IsClockBeyond}
 use Rattle.pm_trace.specs.declared.line.Word.{Word}
@@ -33,10 +34,6 @@ is_told text test (first ∷ []) = false
 is_told text test (first ∷ name ∷ []) = false
 is_told text test (first ∷ name ∷ number ∷ others) = is_name text name && passes test number others
 
--- a master or a node with this number
-abbrev pub numbered_node : ℕ → NodeId
-numbered_node n = record { 0 = n }
-
 -- the callback asks a master to suspend, or tells it a note about a node beyond, which is its first argument
 abbrev pub is_call : Border → ℕ → ℕ → Bool
 is_call border id first = (id == init_suspend) || ((id == notify) && border.node first)
@@ -53,12 +50,12 @@ tells_start c border line = is_told (codes "run") (λ proc others. is_beyond c.o
 -- the line is the drop of a message of another master, which is beyond or isn't configured
 abbrev pub tells_drop : Setup → Border → NodeId → List Word → Bool
 tells_drop c border m line =
-    is_told (codes "drop") (λ master others. not (master == m.0) && none_within border (place_of c.object (numbered_node master))) line
+    is_told (codes "drop") (λ master others. not (master == m.0) && none_within border (configured_place c.object (numbered_node master))) line
 
 -- the line asks a master beyond to suspend, or tells it a note about a node beyond
 abbrev pub tells_call : Setup → Border → List Word → Bool
 tells_call c border line =
-    is_told (codes "call") (λ master others. not (is_within border (place_of c.object (numbered_node master))) && calls_back border others) line
+    is_told (codes "call") (λ master others. not (is_within border (configured_place c.object (numbered_node master))) && calls_back border others) line
 
 -- the line has this name behind its number
 abbrev pub is_of : List ℕ → List Word → Bool

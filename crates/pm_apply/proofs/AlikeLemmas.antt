@@ -18,7 +18,7 @@ use Rattle.pm_record.specs.declared.kept.KeptValue.{KeptValue}
 use Rattle.pm_apply.specs.declared.turns.Turn.{Turn}
 use Rattle.pm_apply.specs.declared.turns.Turn.TheVariants.{PowerOn, Pulse, Apply, PowerOff}
 use Rattle.pm_apply.specs.Part.{part_of}
-use Rattle.pm_state.specs.Members.{is_place}
+use Rattle.pm_base.specs.Places.{is_place}
 use Rattle.pm_record.specs.Record.{Kept, kept_of, kept_value, mark, marked, after_answer}
 use Rattle.pm_record.specs.Kinds.{is_power}
 use Rattle.pm_apply.specs.Plan.{Carried, command, done_as, due, is_fed, is_used, later_answers, next_answer, plan, power_off, power_on, take_turn, turns_of, where_due}

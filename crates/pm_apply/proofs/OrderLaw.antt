@@ -22,7 +22,7 @@ use Rattle.pm_topology.specs.Units.{units_of}
 use Rattle.pm_record.proofs.Below.{ChipLaws}
 use Rattle.pm_apply.specs.declared.turns.Turn.{Turn}
 use Rattle.pm_apply.specs.declared.turns.Turn.TheVariants.{PowerOn, Pulse, Apply, PowerOff}
-use Rattle.pm_state.specs.Members.{is_place}
+use Rattle.pm_base.specs.Places.{is_place}
 use Rattle.pm_record.specs.Record.{IsRecordOf, Kept, kept_value, after_answer}
 use Rattle.pm_record.specs.Kinds.{is_power}
 use Rattle.pm_apply.specs.Plan.{command, plan, due, is_fed, power_value}

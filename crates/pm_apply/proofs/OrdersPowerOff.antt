@@ -17,7 +17,7 @@ use Rattle.pm_topology.specs.UnitMap.{units_in}
 use Rattle.pm_topology.specs.Units.{has_in, units_of}
 use Rattle.pm_record.proofs.Below.{ChipLaws}
 use Rattle.pm_apply.specs.declared.turns.Turn.TheVariants.{PowerOff}
-use Rattle.pm_state.specs.Members.{is_place}
+use Rattle.pm_base.specs.Places.{is_place}
 use Rattle.pm_record.specs.Record.{IsRecordOf, Kept, kept_value, after_answer}
 use Rattle.pm_record.specs.Kinds.{is_power}
 use Rattle.pm_apply.specs.Plan.{due, done_as, is_used}

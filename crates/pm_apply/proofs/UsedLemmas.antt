@@ -12,7 +12,7 @@ use Rattle.pm_topology.specs.Places.{parent_of}
 use Rattle.pm_topology.specs.UnitMap.{units_in}
 use Rattle.pm_topology.specs.Units.{needs_power, rises, units_of}
 use Rattle.pm_state.specs.Fed.{IsFed}
-use Rattle.pm_state.specs.Members.{is_place}
+use Rattle.pm_base.specs.Places.{is_place}
 use Rattle.pm_record.specs.declared.kept.KeptValue.{KeptValue}
 use Rattle.pm_record.specs.Marks.{LagsNotAt, StandsElsewhere}
 use Rattle.pm_record.specs.Record.{Kept, kept_value}

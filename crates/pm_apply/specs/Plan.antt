@@ -9,7 +9,7 @@ use Rattle.pm_base.specs.declared.names.Command.{Command}
 use Rattle.pm_topology.specs.declared.topology.Topology.{Topology}
 use Rattle.pm_topology.specs.declared.topology.PowerDef.{PowerDef}
 use Rattle.pm_topology.specs.Units.{needs_power, parent_of_unit, same_unit}
-use Rattle.pm_state.specs.Members.{is_place}
+use Rattle.pm_base.specs.Places.{is_place}
 use Rattle.pm_core.specs.declared.outbox.Done.{Done}
 use Rattle.pm_topology.specs.Units.{units_of}
 use Rattle.pm_apply.specs.declared.turns.Turn.{Turn}

@@ -7,7 +7,7 @@ ghost use Rattle.pm_topology.specs.Places.{parent_at};
 ghost use Rattle.pm_topology.specs.UnitMap.{units_in};
 ghost use Rattle.pm_topology.specs.Units.{kind_needs_power, units_of};
 ghost use Rattle.pm_topology.specs.WellFormed.{IsWellFormed};
-ghost use Rattle.pm_state.specs.Members.{is_place};
+ghost use Rattle.pm_base.specs.Places.{is_place};
 ghost use Rattle.pm_state.specs.Values.{value};
 ghost use Rattle.pm_record.specs.declared.kept.KeptValue.{KeptValue as Entry};
 ghost use Rattle.pm_record.specs.Marks.{StandsElsewhere};

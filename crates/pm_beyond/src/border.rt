@@ -9,7 +9,7 @@ ghost use Rattle.pm_perms.specs.Several.{masters_of};
 ghost use Rattle.pm_reach.specs.Brings.{brings};
 ghost use Rattle.pm_laws.specs.Answers.{named_beyond, names_beyond};
 ghost use Rattle.pm_laws.specs.Border.{line_beyond, none_within, unit_beyond};
-ghost use Rattle.pm_laws.specs.ReachBorder.{brings_in, master_beyond, place_of, reaches, unit_border};
+ghost use Rattle.pm_laws.specs.ReachBorder.{brings_in, configured_place, master_beyond, reaches, unit_border};
 ghost use Rattle.pm_state.specs.Members.{owner_at};
 ghost use Rattle.pm_beyond.specs.Found.{ArePaths, number_by};
 
@@ -25,8 +25,8 @@ use pm_topology::{Kind, Topology};
 use std::alloc::Global;
 
 /// The place of a configured master; None for another number.
-pub(crate) fn place_of(object: &Object, m: NodeId) -> Option<usize>
-    ensures { result ≡ place_of object.now m }
+pub(crate) fn configured_place(object: &Object, m: NodeId) -> Option<usize>
+    ensures { result ≡ configured_place object.now m }
 {
     object
         .masters
@@ -196,7 +196,7 @@ fn node_beyond(
         → result ≡ number_by loaded.now objects.now t.now from node.0 }
 {
     unit_beyond(loaded, objects, t, routes, t.kind(node))
-        && none_within(objects, routes, place_of(loaded, node))
+        && none_within(objects, routes, configured_place(loaded, node))
 }
 
 /// Whether a reset line is beyond, or the chip has none of this number.

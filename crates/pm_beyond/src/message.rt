@@ -3,12 +3,12 @@
 ghost use Rattle.std.specs.Prelude.{◌≡◌, IfOk};
 ghost use Rattle.pm_base.specs.declared.events.Event.TheVariants.{Ipi};
 ghost use Rattle.pm_laws.specs.Answers.{message_beyond};
-ghost use Rattle.pm_laws.specs.ReachBorder.{border_of, place_of, unit_border};
+ghost use Rattle.pm_laws.specs.ReachBorder.{border_of, configured_place, unit_border};
 ghost use Rattle.pm_perms.specs.Several.{masters_of};
 ghost use Rattle.pm_state.specs.State.{Fixed, objects_of};
 ghost use Rattle.pm_beyond.specs.Found.{number_by};
 
-use crate::border::{names_beyond, none_within, paths_from, place_of};
+use crate::border::{configured_place, names_beyond, none_within, paths_from};
 use pm_base::{Message, NoMemory, NodeId};
 use pm_ipi::decode_call;
 use pm_object::Object;
@@ -32,12 +32,12 @@ fn is_beyond_by(
 ) -> Result<bool, NoMemory>
     requires { masters_of objects.now ≡ loaded.now.masters }
     ensures { IfOk result (λ beyond. beyond ≡ message_beyond loaded.now t.now
-        (unit_border objects.now t.now (place_of loaded.now of)
-        (number_by loaded.now objects.now t.now (place_of loaded.now of))) (Ipi sender message.now)) }
+        (unit_border objects.now t.now (configured_place loaded.now of)
+        (number_by loaded.now objects.now t.now (configured_place loaded.now of))) (Ipi sender message.now)) }
 {
-    let routes = paths_from(alloc, objects, t, place_of(loaded, of))?;
+    let routes = paths_from(alloc, objects, t, configured_place(loaded, of))?;
     let routes = routes.as_slice();
-    let sent = none_within(objects, routes, place_of(loaded, sender));
+    let sent = none_within(objects, routes, configured_place(loaded, sender));
     Ok(sent && names_beyond(loaded, objects, t, routes, decode_call(message)))
 }
 

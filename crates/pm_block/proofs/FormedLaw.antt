@@ -15,7 +15,8 @@ use Rattle.pm_object.proofs.Bytes.{IsBytes, bytes_fit}
 use Rattle.pm_object.proofs.ReadObject.{reads_what_it_reads}
 use Rattle.pm_block.specs.declared.block.Piece.{Piece}
 use Rattle.pm_block.specs.Block.{attached_by, pieces_of}
-use Rattle.pm_block.specs.Pieces.{IsFormed, attached_in, content_of}
+use Rattle.pm_object.specs.Attached.{IsFormed}
+use Rattle.pm_block.specs.Pieces.{attached_in, content_of}
 
 -- words are spelled by bytes
 word_bytes : (word : ℕ) → Each (λ b. b < 256) (to_le_bytes w32 word)

@@ -1,12 +1,12 @@
 -- Words that lines attach at addresses, joined: a piece is the words at one address.
-use Rattle.std.specs.Prelude.{◌≡◌, ℕ, ◌+◌, Bool, ◌==◌, ◌||◌, ◌++◌, nat_lt, if◌then◌else◌, List, [], ◌∷◌, length, take, Result, Ok, Err}
+use Rattle.std.specs.Prelude.{ℕ, ◌+◌, Bool, ◌==◌, ◌||◌, ◌++◌, nat_lt, if◌then◌else◌, List, [], ◌∷◌, length, take, Result, Ok, Err}
 use Rattle.std.specs.List.{list_any}
 use Rattle.pm_object.specs.declared.object.Object.{Object}
 use Rattle.pm_object.specs.declared.object.ObjectFault.{ObjectFault}
 use Rattle.pm_object.specs.declared.attached.Attached.{Attached}
 use Rattle.pm_object.specs.declared.attached.Content.{Content}
 use Rattle.pm_object.specs.declared.attached.Content.TheVariants as content
-use Rattle.pm_object.specs.Grammar.{IsObject, little_endian, most_words}
+use Rattle.pm_object.specs.Grammar.{little_endian, most_words}
 use Rattle.pm_object.specs.Reading.{reading}
 use Rattle.pm_block.specs.declared.block.Piece.{Piece}
 
@@ -46,7 +46,3 @@ content_of (Err fault) = content.Bad fault
 
 abbrev pub attached_in : Piece → Attached
 attached_in piece = record { address = piece.address; content = content_of (reading (little_endian piece.words)) }
-
--- where what is attached is an object, that is well formed
-abbrev pub IsFormed : Attached → Type 0
-IsFormed attached = (o : Object) → attached.content ≡ content.Object o → IsObject o

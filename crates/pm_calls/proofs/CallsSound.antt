@@ -129,7 +129,7 @@ request_fits : (m : ℕ) (caps : Caps) (ack : ℕ) (book : State) → IsSound bo
 request_fits m caps ack book sound heard s all e is =
     let view : RowView = view_of m s book in (
       able caps view e is all.capable,
-      rival_known book (rival_of m s book.now.core.rows) (unrivalled (is_in_use view) view.rival all.standing),
+      rival_known book (rival_of m s book.now.core.rows) (unrivalled (is_in_use view) view.rival all.finding),
       awake_is_not_off (mode_of_master book.fixed book.now.core m) (mode_of m book.now.core.rows) (sound.knows.right m heard.there) heard.awake,
     )
 

@@ -14,7 +14,8 @@ use Rattle.pm_topology.specs.declared.places.Kind.{Kind}
 use Rattle.pm_topology.specs.declared.places.Kind.TheVariants.{Proc, Slave, Power, Unknown}
 use Rattle.pm_topology.specs.Places.{kind_at, kind_of, line_place as chip_line, power_place, proc_place, slave_place as chip_slave}
 use Rattle.pm_state.proofs.ObjectsLaw.{of_run, place_same}
-use Rattle.pm_state.specs.Members.{is_place, owner_at, owns}
+use Rattle.pm_base.specs.Places.{is_place}
+use Rattle.pm_state.specs.Members.{owner_at, owns}
 use Rattle.pm_state.specs.Nodes.{named_master, row, row_at}
 use Rattle.pm_state.specs.Sound.{IsSound, is_own}
 use Rattle.pm_state.specs.State.{State, grants_in, in_force}

@@ -3,34 +3,34 @@ use Rattle.std.proofs.Common.{◌≡◌, ℕ, Bool, true, false, List, [], Optio
 use Rattle.std.specs.Prelude.{option_map}
 use Rattle.pm_calls.specs.declared.verdict.Effects.{Effects}
 use Rattle.pm_calls.specs.declared.verdict.Say.{Say}
-use Rattle.pm_calls.specs.Checks.{AllHold, Cause, Checks, Fits, InUse, NotUsed, Standing, Stands, UsedBy, WrongMode, first_failing, in_range}
+use Rattle.pm_calls.specs.Checks.{AllHold, Cause, Checks, Finding, Fits, InUse, NotUsed, Stands, UsedBy, WrongMode, first_failing, in_range}
 use Rattle.pm_state.specs.Prims.{Prim}
 use Rattle.pm_calls.specs.Verdict.{Called, says_of, stages_by, stages_of, verdict_by, verdict_of}
 
 -- ---- the first check that fails
 
-hold_by : (known acknowledge node : Bool) (arguments : Option (List ℕ)) (permitted capable : Bool) (standing : Standing)
-    → first_failing (record { known = known; acknowledge = acknowledge; node = node; arguments = arguments; permitted = permitted; capable = capable; standing = standing }) ≡ Stands Fits
-    → AllHold (record { known = known; acknowledge = acknowledge; node = node; arguments = arguments; permitted = permitted; capable = capable; standing = standing })
+hold_by : (known acknowledge node : Bool) (arguments : Option (List ℕ)) (permitted capable : Bool) (finding : Finding)
+    → first_failing (record { known = known; acknowledge = acknowledge; node = node; arguments = arguments; permitted = permitted; capable = capable; finding = finding }) ≡ Stands Fits
+    → AllHold (record { known = known; acknowledge = acknowledge; node = node; arguments = arguments; permitted = permitted; capable = capable; finding = finding })
 hold_by true true true None true true Fits is =
-    record { known = refl; acknowledge = refl; node = refl; arguments = refl; permitted = refl; capable = refl; standing = refl }
+    record { known = refl; acknowledge = refl; node = refl; arguments = refl; permitted = refl; capable = refl; finding = refl }
 hold_by true true true None true true NotUsed is = cc
 hold_by true true true None true true InUse is = cc
 hold_by true true true None true true (UsedBy other) is = cc
 hold_by true true true None true true WrongMode is = cc
-hold_by false acknowledge node arguments permitted capable standing is = cc
-hold_by true false node arguments permitted capable standing is = cc
-hold_by true true false arguments permitted capable standing is = cc
-hold_by true true true (Some words) permitted capable standing is = cc
-hold_by true true true None false capable standing is = cc
-hold_by true true true None true false standing is = cc
+hold_by false acknowledge node arguments permitted capable finding is = cc
+hold_by true false node arguments permitted capable finding is = cc
+hold_by true true false arguments permitted capable finding is = cc
+hold_by true true true (Some words) permitted capable finding is = cc
+hold_by true true true None false capable finding is = cc
+hold_by true true true None true false finding is = cc
 
 -- if none fails all hold
 pub all_hold : (checks : Checks) → first_failing checks ≡ Stands Fits → AllHold checks
-all_hold checks = hold_by checks.known checks.acknowledge checks.node checks.arguments checks.permitted checks.capable checks.standing
+all_hold checks = hold_by checks.known checks.acknowledge checks.node checks.arguments checks.permitted checks.capable checks.finding
 
 pub none_fails : (checks : Checks) → AllHold checks → first_failing checks ≡ Stands Fits
-none_fails checks all = cc (all.known, all.acknowledge, all.node, all.arguments, all.permitted, all.capable, all.standing)
+none_fails checks all = cc (all.known, all.acknowledge, all.node, all.arguments, all.permitted, all.capable, all.finding)
 
 fits_or_not : (cause : Cause) (stages : List (List Prim)) → (cause ≡ Stands Fits) ⊎ (stages_by cause stages ≡ [])
 fits_or_not (Stands Fits) stages = inl refl

@@ -3,17 +3,17 @@ use Rattle.std.specs.Prelude.{◌≡◌, ℕ, Bool, true, not, if◌then◌else�
 use Rattle.pm_base.specs.declared.names.NodeId.{NodeId}
 
 -- what the last check finds in the state of the book
-pub data Standing : Type 0 where
+pub data Finding : Type 0 where
   -- nothing speaks against the call
-  Fits : Standing
+  Fits : Finding
   -- the caller doesn't use the slave
-  NotUsed : Standing
+  NotUsed : Finding
   -- the caller uses the slave already, its processor suspends already, or a request to suspend is pending already
-  InUse : Standing
+  InUse : Finding
   -- this other master uses the slave, which can't be shared
-  UsedBy : NodeId → Standing
+  UsedBy : NodeId → Finding
   -- a processor, or the master that is asked, isn't in a mode that the call needs
-  WrongMode : Standing
+  WrongMode : Finding
 
 -- the seven checks of a call in their order: whether each holds; for the fourth the words that are told if it fails,
 -- for the last what it finds
@@ -31,7 +31,7 @@ pub record Checks : Type 0 where
   -- 6: the slave, or the product, can do what is asked
   pub capable : Bool
   -- 7: the state of the book allows it
-  pub standing : Standing
+  pub finding : Finding
 
 -- a call without checks
 abbrev pub unchecked : Checks
@@ -42,7 +42,7 @@ unchecked = record {
   arguments = None;
   permitted = true;
   capable = true;
-  standing = Fits;
+  finding = Fits;
 }
 
 -- arguments that are in range, or a refusal without words
@@ -58,7 +58,7 @@ pub data Cause : Type 0 where
   Arguments : List ℕ → Cause
   Permitted : Cause
   Capable : Cause
-  Stands : Standing → Cause
+  Stands : Finding → Cause
 
 -- the fourth check, or else a later cause
 abbrev pub range_first : Option (List ℕ) → Cause → Cause
@@ -73,7 +73,7 @@ first_failing checks =
     else range_first checks.arguments
     (if not checks.permitted then Permitted
     else if not checks.capable then Capable
-    else Stands checks.standing)
+    else Stands checks.finding)
 
 -- all seven checks hold
 pub record AllHold (checks : Checks) : Type 0 where
@@ -83,4 +83,4 @@ pub record AllHold (checks : Checks) : Type 0 where
   pub arguments : checks.arguments ≡ None
   pub permitted : checks.permitted ≡ true
   pub capable : checks.capable ≡ true
-  pub standing : checks.standing ≡ Fits
+  pub finding : checks.finding ≡ Fits

@@ -7,7 +7,8 @@ use Rattle.pm_perms.specs.Permits.{may_configure, may_force, may_reset, may_shut
 use Rattle.pm_topology.specs.declared.places.Kind.{Kind}
 use Rattle.pm_topology.specs.declared.places.Kind.TheVariants.{Proc, Slave, Power}
 use Rattle.pm_topology.specs.Places.{kind_of}
-use Rattle.pm_state.specs.Members.{is_place, owner_at}
+use Rattle.pm_base.specs.Places.{is_place}
+use Rattle.pm_state.specs.Members.{owner_at}
 use Rattle.pm_state.specs.Nodes.{named_master}
 use Rattle.pm_state.specs.Sound.{IsSound, is_own}
 use Rattle.pm_state.specs.State.{Fixed, State, in_force}

@@ -6,7 +6,7 @@ use Rattle.pm_base.specs.declared.names.Mode.TheVariants.{Off}
 use Rattle.pm_procs.specs.declared.procs.Proc.{Proc}
 use Rattle.pm_procs.specs.Modes.{same_mode}
 use Rattle.pm_calls.specs.declared.views.ProcView.{ProcView}
-use Rattle.pm_calls.specs.Checks.{Checks, Standing, Fits, unchecked}
+use Rattle.pm_calls.specs.Checks.{Checks, Finding, Fits, unchecked}
 use Rattle.pm_state.specs.Prims.{Prim, Put_proc}
 
 -- the node is a processor, and the caller's
@@ -14,7 +14,7 @@ abbrev pub on_own : ProcView → Checks
 on_own view = record unchecked { node = is_some view.place; permitted = is_some view.own }
 
 -- the last check, by the mode of the caller's own processor; for another processor the permission check fails first
-abbrev pub by_mode : (Mode → Standing) → Option Proc → Standing
+abbrev pub by_mode : (Mode → Finding) → Option Proc → Finding
 by_mode says None = Fits
 by_mode says (Some proc) = says proc.mode
 

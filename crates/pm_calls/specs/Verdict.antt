@@ -11,7 +11,7 @@ use Rattle.pm_calls.specs.declared.verdict.Say.{Say}
 use Rattle.pm_calls.specs.declared.verdict.Say.TheVariants.{Ask, Abort, Renew}
 use Rattle.pm_calls.specs.declared.verdict.Verdict.{Verdict}
 use Rattle.pm_calls.specs.declared.verdict.Verdict.TheVariants.{Dropped, Refused, Accepted}
-use Rattle.pm_calls.specs.Checks.{Checks, Cause, Known, Acknowledge, Node, Arguments, Permitted, Capable, Stands, Standing, Fits, NotUsed, InUse, UsedBy, WrongMode, first_failing}
+use Rattle.pm_calls.specs.Checks.{Checks, Cause, Known, Acknowledge, Node, Arguments, Permitted, Capable, Stands, Fits, NotUsed, InUse, UsedBy, WrongMode, first_failing, Finding}
 use Rattle.pm_state.specs.Prims.{Prim}
 
 -- ---- what a call is
@@ -49,12 +49,12 @@ effecting checks effects = record { checks = checks; stages = []; effects = effe
 -- ---- the verdict
 
 -- the verdict by the finding of the last check
-abbrev pub verdict_standing : Standing → Effects → Verdict
-verdict_standing Fits effects = Accepted effects
-verdict_standing NotUsed effects = Refused (refusal no_access)
-verdict_standing InUse effects = Refused (refusal double_request)
-verdict_standing (UsedBy other) effects = Refused (used_by other)
-verdict_standing WrongMode effects = Refused (refusal failure)
+abbrev pub verdict_finding : Finding → Effects → Verdict
+verdict_finding Fits effects = Accepted effects
+verdict_finding NotUsed effects = Refused (refusal no_access)
+verdict_finding InUse effects = Refused (refusal double_request)
+verdict_finding (UsedBy other) effects = Refused (used_by other)
+verdict_finding WrongMode effects = Refused (refusal failure)
 
 -- the verdict by the first check that fails
 abbrev pub verdict_by : Cause → Effects → Verdict
@@ -64,7 +64,7 @@ verdict_by Node effects = Refused (refusal invalid_node)
 verdict_by (Arguments words) effects = Refused (record { status = invalid_parameter; words = words })
 verdict_by Permitted effects = Refused (refusal no_access)
 verdict_by Capable effects = Refused (refusal no_feature)
-verdict_by (Stands standing) effects = verdict_standing standing effects
+verdict_by (Stands finding) effects = verdict_finding finding effects
 
 abbrev pub verdict_of : Called → Verdict
 verdict_of call = verdict_by (first_failing call.checks) call.effects

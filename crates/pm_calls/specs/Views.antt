@@ -19,7 +19,7 @@ use Rattle.pm_topology.specs.Places.{kind_of}
 use Rattle.pm_procs.specs.declared.procs.Proc.{Proc as Processor}
 use Rattle.pm_procs.specs.Procs.{proc_at}
 use Rattle.pm_state.specs.Members.{owner_at, owns, mode_of_master}
-use Rattle.pm_object.specs.Grammar.{is_master_node}
+use Rattle.pm_base.specs.Masters.{is_master_number}
 use Rattle.pm_grants.specs.Grants.{permits_suspend, permits_use, permits_wake}
 use Rattle.pm_procs.specs.Pending.{pending_at}
 use Rattle.pm_state.specs.Values.{slave_place, point_at}
@@ -88,7 +88,7 @@ is_proc (Proc p) = true
 is_proc _ = false
 
 abbrev pub names_master : Fixed → NodeId → Bool
-names_master fixed node = is_proc (kind_of fixed.topology node) || is_master_node node.0
+names_master fixed node = is_proc (kind_of fixed.topology node) || is_master_number node.0
 
 -- the timeout of the master at a place; 0 without such a master
 abbrev pub master_timeout : List MasterRec → ℕ → ℕ

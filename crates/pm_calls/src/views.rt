@@ -6,8 +6,8 @@ ghost use Rattle.pm_values.specs.Caches.{AreKept};
 ghost use Rattle.pm_calls.specs.Views;
 ghost use Rattle.pm_calls.specs.Views.{own_proc, proc_view, can_wake, wakeable, wake_view, can_suspend, is_asked, names_master, suspendable, suspendable_at, suspend_view, watched, status_view};
 
-use pm_base::{Caps, Mode, NodeId, Unit};
-use pm_object::{MasterRec, is_master_node};
+use pm_base::{Caps, Mode, NodeId, Unit, is_master_number};
+use pm_object::MasterRec;
 use pm_procs::{Proc, mode_number};
 use pm_rows::Entry;
 use pm_state::{Tables, master_node};
@@ -197,7 +197,7 @@ pub(crate) fn suspend_view(tables: &Tables, master: usize, node: NodeId) -> Susp
 fn names_master(tables: &Tables, node: NodeId) -> bool
     ensures { result ≡ names_master tables.now.fixed node }
 {
-    matches!(tables.kind(node), Kind::Proc(_)) || is_master_node(node.0)
+    matches!(tables.kind(node), Kind::Proc(_)) || is_master_number(node)
 }
 
 /// The master at a place as a target of REQUEST_SUSPEND; None if there is none, or the object doesn't permit it.

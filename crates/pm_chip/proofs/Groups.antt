@@ -1,8 +1,9 @@
 -- A group of slaves is put one by one.
 use Rattle.std.proofs.Common.{◌≡◌, ℕ, ◌+◌, ◌-◌, ◌<◌, List, [], ◌∷◌, ◌++◌, refl, suc, arith, append_assoc}
+use Rattle.pm_base.specs.Names.{numbered_node as node}
 use Rattle.pm_topology.specs.declared.topology.SlaveDef.{SlaveDef}
 use Rattle.pm_chip.specs.declared.classes.Class.{Class}
-use Rattle.pm_chip.specs.Chip.{node, slaves_from}
+use Rattle.pm_chip.specs.Chip.{slaves_from}
 use Rattle.pm_chip.specs.Classes.{states_of}
 
 -- the first of a group that isn't empty

@@ -1,6 +1,7 @@
 -- The table of the Zynq UltraScale+ (node numbers and domains of UG1200): the five lists of its topology.
 use Rattle.std.specs.Prelude.{ℕ, ◌+◌, Bool, true, false, Option, Some, None, List, [], ◌∷◌, ◌++◌, map, zero, suc}
 use Rattle.std.specs.List.{flat_map}
+use Rattle.pm_base.specs.Names.{numbered_node as node}
 use Rattle.pm_base.specs.declared.names.NodeId.{NodeId}
 use Rattle.pm_topology.specs.declared.topology.SlaveDef.{SlaveDef}
 use Rattle.pm_topology.specs.declared.topology.ProcDef.{ProcDef}
@@ -12,9 +13,6 @@ use Rattle.pm_chip.specs.declared.classes.Class.{Class}
 use Rattle.pm_chip.specs.declared.classes.Class.TheVariants.{Memory, Dram, Peripheral, Block, External}
 use Rattle.pm_chip.specs.declared.chip.Group.{Group}
 use Rattle.pm_chip.specs.Classes.{states_of}
-
-abbrev pub node : ℕ → NodeId
-node number = record { 0 = number }
 
 -- a power node by its number, its parent's place, whether it is held, its figure and its latency
 abbrev pub power : ℕ → Option ℕ → Bool → ℕ → ℕ → PowerDef

@@ -41,7 +41,7 @@ use Rattle.pm_laws.specs.Beside.{Beside, IsOwn, none, both as in_both, left, res
 use Rattle.pm_laws.specs.Border.{AreObjects, Border, IsBeyond, none_within, unit_beyond}
 use Rattle.pm_laws.specs.Hidden.{is_within}
 use Rattle.pm_laws.specs.Left.{border_in}
-use Rattle.pm_laws.specs.ReachBorder.{border_of, place_of}
+use Rattle.pm_laws.specs.ReachBorder.{border_of, configured_place}
 use Rattle.pm_laws.specs.Told.{SameTold, TellsNothing}
 use Rattle.pm_laws.specs.Values.{IsValueAlike, is_beyond}
 use Rattle.pm_clock_tree.specs.declared.calls.ClockAct.{ClockAct}
@@ -53,7 +53,7 @@ use Rattle.pm_clock_tree.specs.Calls.{act_by, act_of, clock_call}
 use Rattle.pm_clock_tree.specs.Followed.{served_by}
 use Rattle.pm_clock_tree.specs.Laws.{RunByTheirParents, StandAfterSteps}
 use Rattle.pm_clock_tree.specs.Served.{changed, changed_at, refused, response, served, with_setting}
-use Rattle.pm_clock_tree.specs.Table.{clocks, place_of as clock_place, roots}
+use Rattle.pm_clock_tree.specs.Table.{clocks, clock_place, roots}
 use Rattle.pm_clock_tree.specs.Tree.{HasAllPlaces, Seen, Tree}
 use Rattle.pm_clocks.specs.Clocked.{answered, clock_answer, is_on, is_slave, made, node_of, tree_after, view_of, tree_after_core}
 use Rattle.pm_clock_laws.specs.Column.{column, stays}
@@ -152,7 +152,7 @@ tree_over laws event answer book tree places = record {
 pub record IsUser (object : Object) (n : NodeId) : Type 0 where
   pub place : ℕ
   pub master : MasterRec
-  pub is_place : place_of object n ≡ Some place
+  pub is_place : configured_place object n ≡ Some place
   pub is_master : slice_get object.masters place ≡ Some master
   pub node : node_of master ≡ n
 
@@ -161,15 +161,15 @@ is_named n r = r.node == n.0
 
 -- a master that may use the slave by an object of the run; each object has the masters of the loaded one
 user_at : (fixed : Fixed) (object : Object) → IsAmong fixed object → (n slave : NodeId) → may_use object fixed.topology n slave ≡ true → IsUser fixed.object n
-user_at fixed object among n slave may = by (place_of fixed.object n) refl
+user_at fixed object among n slave may = by (configured_place fixed.object n) refl
   where
     permitted : may_use_by (master_record object n) (slave_record object slave) ≡ true
     permitted = (both (is_some (slave_place fixed.topology.slaves slave.0)) (may_use_by (master_record object n) (slave_record object slave)) may).1
 
-    same : place_of fixed.object n ≡ place_of object n
+    same : configured_place fixed.object n ≡ configured_place object n
     same = place_same n.0 fixed.object.masters object.masters (of_run fixed among.place object among.there)
 
-    by : (place : Option ℕ) → place_of fixed.object n ≡ place → IsUser fixed.object n
+    by : (place : Option ℕ) → configured_place fixed.object n ≡ place → IsUser fixed.object n
     by None is =
         absurd (clash (sym permitted ∙ ap (λ found. may_use_by found (slave_record object slave)) (find-None (is_named n) object.masters (sym same ∙ is))))
     by (Some p) is =
@@ -226,7 +226,7 @@ module _ (border : Border) (k : ℕ) (def : ClockDef) (here : slice_get clocks k
   mode_alike laws a b n user agree beyond =
       ap (λ place. master_mode_at place a) user.is_place
       ∙ laws.mode border user.place a b beyond agree
-      ∙ sym (ap (λ place. master_mode_at place b) (ap (λ (fixed : Fixed). place_of fixed.object n) (sym agree.fixed) ∙ user.is_place))
+      ∙ sym (ap (λ place. master_mode_at place b) (ap (λ (fixed : Fixed). configured_place fixed.object n) (sym agree.fixed) ∙ user.is_place))
 
   stays_alike : Below → (a b : State) → Agree border a b → IsClockBeyond a.fixed border def.number → (n : NodeId)
       → stays (view_of a) def n ≡ stays (view_of b) def n
@@ -335,7 +335,7 @@ names_nothing t border message found is =
 
 -- so the whole message is beyond if its sender is
 message_is_beyond : (object : Object) (t : Topology) (border : Border) (sender : NodeId) (message : Message) (found : ClockAct) (p : ℕ)
-    → place_of object sender ≡ Some p → border.master p ≡ true → act_of message ≡ Some found → message_beyond object t border (Ipi sender message) ≡ true
+    → configured_place object sender ≡ Some p → border.master p ≡ true → act_of message ≡ Some found → message_beyond object t border (Ipi sender message) ≡ true
 message_is_beyond object t border sender message found p place beyond is =
     ap (λ at. none_within border at && names_beyond t border (call_of message)) place
     ∙ ap (λ (b : Bool). b && names_beyond t border (call_of message)) beyond
@@ -396,8 +396,8 @@ module _ (laws : Below) (m : NodeId) (k : ℕ) (def : ClockDef) (here : slice_ge
       by true is =
           let user = user_at a.fixed (in_force a) among master def.node is in
           let its = user_beyond (border_in a m) k def here a.fixed beyond (in_force a) among master user is in
-          let place : place_of a.fixed.object m ≡ Some user.place =
-          ap (λ node. place_of a.fixed.object node) (sym is_own) ∙ user.is_place in
+          let place : configured_place a.fixed.object m ≡ Some user.place =
+          ap (λ node. configured_place a.fixed.object node) (sym is_own) ∙ user.is_place in
           absurd (clash (sym (laws.own m a) ∙ ap (is_within (border_in a m)) place ∙ ap not its))
 
   own_made : (event : Event) (answer : Answer) (a : State) (tree : Tree) → IsAmong a.fixed (in_force a) → IsOwn a.fixed.object a.fixed.topology m event

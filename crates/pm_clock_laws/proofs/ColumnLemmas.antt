@@ -17,7 +17,7 @@ use Rattle.pm_clock_tree.specs.declared.tree.Setting.{Setting}
 use Rattle.pm_clock_tree.specs.Calls.{is_change, is_setting}
 use Rattle.pm_clock_tree.specs.Followed.{emptied, followed, permitted, reviewed, settled_holder}
 use Rattle.pm_clock_tree.specs.Served.{changed, changed_at, is_in_range, is_missing, is_rival, may_change, refused, rival, rival_at, served, with_divider, with_enable, with_index, with_setting}
-use Rattle.pm_clock_tree.specs.Table.{clocks, def_of, is_numbered, place_of}
+use Rattle.pm_clock_tree.specs.Table.{clock_place, clocks, def_of, is_numbered}
 use Rattle.pm_clock_tree.specs.Tree.{Holder, Seen, Tree}
 use Rattle.pm_clock_laws.specs.Column.{Column, column, enable_at, stays}
 
@@ -221,7 +221,7 @@ rival_found master k (holder ∷ holders) = by (is_rival master k holder) (rival
     by true rest = refl
     by false rest = rest
 
-rival_alike : (k : ℕ) (master : NodeId) (call : ClockCall) (s t : Tree) → place_of call.clock ≡ Some k → column k s ≡ column k t
+rival_alike : (k : ℕ) (master : NodeId) (call : ClockCall) (s t : Tree) → clock_place call.clock ≡ Some k → column k s ≡ column k t
     → rival master call s ≡ rival master call t
 rival_alike k master call s t place same =
     ap (λ found. if is_setting call.act then found else None)
@@ -235,7 +235,7 @@ abbrev pub may_use_in : Seen → NodeId → Option ClockDef → Bool
 may_use_in seen master found = option_map_or (λ (def : ClockDef). seen.may_use master def.node) found false
 
 -- a master may change a clock in both views if it may use the clock's slave in both
-pub may_alike : (k : ℕ) (def : ClockDef) (a b : Seen) (master : NodeId) (call : ClockCall) → slice_get clocks k ≡ Some def → place_of call.clock ≡ Some k
+pub may_alike : (k : ℕ) (def : ClockDef) (a b : Seen) (master : NodeId) (call : ClockCall) → slice_get clocks k ≡ Some def → clock_place call.clock ≡ Some k
     → a.may_use master def.node ≡ b.may_use master def.node → may_change a master call ≡ may_change b master call
 may_alike k def a b master call here place permit =
     let is : def_of call.clock ≡ Some def = find-Some (is_numbered call.clock) clocks k place ∙ here in
@@ -253,15 +253,15 @@ refused_by missing within may found =
 
 pub refused_alike : (k : ℕ) (def : ClockDef) (a b : Seen) (master : NodeId) (call : ClockCall) (s t : Tree) → slice_get clocks k ≡ Some def
     → a.may_use master def.node ≡ b.may_use master def.node
-    → place_of call.clock ≡ Some k → column k s ≡ column k t → refused a master call s ≡ refused b master call t
+    → clock_place call.clock ≡ Some k → column k s ≡ column k t → refused a master call s ≡ refused b master call t
 refused_alike k def a b master call s t here permit place same =
     ap (λ may. refused_by (is_missing call) (is_in_range call) may (rival master call s)) (may_alike k def a b master call here place permit)
     ∙ ap (refused_by (is_missing call) (is_in_range call) (may_change b master call)) (rival_alike k master call s t place same)
 
 -- ---- a call
 
-changed_alike : (k : ℕ) (master : NodeId) (call : ClockCall) (s t : Tree) → place_of call.clock ≡ Some k → column k s ≡ column k t
-    → column k (changed_at master call.act (place_of call.clock) s) ≡ column k (changed_at master call.act (place_of call.clock) t)
+changed_alike : (k : ℕ) (master : NodeId) (call : ClockCall) (s t : Tree) → clock_place call.clock ≡ Some k → column k s ≡ column k t
+    → column k (changed_at master call.act (clock_place call.clock) s) ≡ column k (changed_at master call.act (clock_place call.clock) t)
 changed_alike k master call s t place same =
     ap (λ p. column k (changed_at master call.act p s)) place
     ∙ changed_here k master call.act s
@@ -271,15 +271,15 @@ changed_alike k master call s t place same =
 
 pub served_alike : (k : ℕ) (def : ClockDef) (a b : Seen) (master : NodeId) (call : ClockCall) (s t : Tree) → slice_get clocks k ≡ Some def
     → a.may_use master def.node ≡ b.may_use master def.node
-    → place_of call.clock ≡ Some k → column k s ≡ column k t
+    → clock_place call.clock ≡ Some k → column k s ≡ column k t
     → column k (served a master call s) ≡ column k (served b master call t)
 served_alike k def a b master call s t here permit place same =
     by (is_some (refused a master call s))
-    ∙ ap (λ (found : Option Response). column k (if is_some found then t else changed_at master call.act (place_of call.clock) t))
+    ∙ ap (λ (found : Option Response). column k (if is_some found then t else changed_at master call.act (clock_place call.clock) t))
     (refused_alike k def a b master call s t here permit place same)
   where
-    by : (refuses : Bool) → column k (if refuses then s else changed_at master call.act (place_of call.clock) s)
-        ≡ column k (if refuses then t else changed_at master call.act (place_of call.clock) t)
+    by : (refuses : Bool) → column k (if refuses then s else changed_at master call.act (clock_place call.clock) s)
+        ≡ column k (if refuses then t else changed_at master call.act (clock_place call.clock) t)
     by true = same
     by false = changed_alike k master call s t place same
 
@@ -287,13 +287,13 @@ elsewhere : (k : ℕ) (master : NodeId) (a : ClockAct) (p : Option ℕ) (tree : 
 elsewhere k master a None tree apart = refl
 elsewhere k master a (Some j) tree apart = changed_elsewhere j k master a tree (λ same. apart (ap (λ n. Some n) same))
 
-pub served_other : (k : ℕ) (seen : Seen) (master : NodeId) (call : ClockCall) (tree : Tree) → (place_of call.clock ≡ Some k → ⊥)
+pub served_other : (k : ℕ) (seen : Seen) (master : NodeId) (call : ClockCall) (tree : Tree) → (clock_place call.clock ≡ Some k → ⊥)
     → column k (served seen master call tree) ≡ column k tree
 served_other k seen master call tree apart = by (is_some (refused seen master call tree))
   where
-    by : (refuses : Bool) → column k (if refuses then tree else changed_at master call.act (place_of call.clock) tree) ≡ column k tree
+    by : (refuses : Bool) → column k (if refuses then tree else changed_at master call.act (clock_place call.clock) tree) ≡ column k tree
     by true = refl
-    by false = elsewhere k master call.act (place_of call.clock) tree apart
+    by false = elsewhere k master call.act (clock_place call.clock) tree apart
 
 -- a call that changes a clock is refused if the caller may not use its slave
 barred_refused : (missing within : Bool) (found : Option NodeId) → is_some (refused_by missing within false found) ≡ true
@@ -304,10 +304,10 @@ barred_refused false true found = refl
 pub served_barred : (k : ℕ) (def : ClockDef) (seen : Seen) (master : NodeId) (call : ClockCall) (tree : Tree)
     → slice_get clocks k ≡ Some def → seen.may_use master def.node ≡ false
     → column k (served seen master call tree) ≡ column k tree
-served_barred k def seen master call tree here barred = by_place (place_of call.clock) refl
+served_barred k def seen master call tree here barred = by_place (clock_place call.clock) refl
   where
     -- a call on this clock
-    refuses : place_of call.clock ≡ Some k → is_change call.act ≡ true → is_some (refused seen master call tree) ≡ true
+    refuses : clock_place call.clock ≡ Some k → is_change call.act ≡ true → is_some (refused seen master call tree) ≡ true
     refuses place changes =
         let may : may_change seen master call ≡ false =
         ap (λ c. not c || may_use_in seen master (def_of call.clock)) changes
@@ -315,8 +315,8 @@ served_barred k def seen master call tree here barred = by_place (place_of call.
         ap (λ m. is_some (refused_by (is_missing call) (is_in_range call) m (rival master call tree))) may
         ∙ barred_refused (is_missing call) (is_in_range call) (rival master call tree)
 
-    done : (a : ClockAct) → call.act ≡ a → place_of call.clock ≡ Some k → (fails : Bool) → is_some (refused seen master call tree) ≡ fails
-        → column k (if fails then tree else changed_at master a (place_of call.clock) tree) ≡ column k tree
+    done : (a : ClockAct) → call.act ≡ a → clock_place call.clock ≡ Some k → (fails : Bool) → is_some (refused seen master call tree) ≡ fails
+        → column k (if fails then tree else changed_at master a (clock_place call.clock) tree) ≡ column k tree
     done a is place true fails = refl
     done act.State is place false fails = ap (λ p. column k (changed_at master act.State p tree)) place
     done act.Divider is place false fails = ap (λ p. column k (changed_at master act.Divider p tree)) place
@@ -326,12 +326,12 @@ served_barred k def seen master call tree here barred = by_place (place_of call.
     done (act.SetDivider divider) is place false fails = absurd (clash (sym (refuses place (ap is_change is)) ∙ fails))
     done (act.SetParent index) is place false fails = absurd (clash (sym (refuses place (ap is_change is)) ∙ fails))
 
-    by_same : (j : ℕ) → place_of call.clock ≡ Some j → (same : Bool) → (j == k) ≡ same → column k (served seen master call tree) ≡ column k tree
+    by_same : (j : ℕ) → clock_place call.clock ≡ Some j → (same : Bool) → (j == k) ≡ same → column k (served seen master call tree) ≡ column k tree
     by_same j place true same =
         done call.act refl (place ∙ ap (λ n. Some n) (eqb-true j k same)) (is_some (refused seen master call tree)) refl
     by_same j place false same =
         served_other k seen master call tree (λ at. clash (sym (equal j k (some_same j k (sym place ∙ at))) ∙ same))
 
-    by_place : (p : Option ℕ) → place_of call.clock ≡ p → column k (served seen master call tree) ≡ column k tree
+    by_place : (p : Option ℕ) → clock_place call.clock ≡ p → column k (served seen master call tree) ≡ column k tree
     by_place None place = served_other k seen master call tree (λ at. no_some k (sym place ∙ at))
     by_place (Some j) place = by_same j place (j == k) refl

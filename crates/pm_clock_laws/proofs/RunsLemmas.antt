@@ -19,7 +19,7 @@ use Rattle.pm_clock_tree.specs.declared.tree.Setting.{Setting}
 use Rattle.pm_clock_tree.specs.Calls.{is_change, is_setting}
 use Rattle.pm_clock_tree.specs.Laws.{RunByTheirParents}
 use Rattle.pm_clock_tree.specs.Served.{is_in_range, is_missing, may_change, refused, response, rival, rival_at, told_word, word_by}
-use Rattle.pm_clock_tree.specs.Table.{clocks, is_numbered, parent_at, place_of}
+use Rattle.pm_clock_tree.specs.Table.{clock_place, clocks, is_numbered, parent_at}
 use Rattle.pm_clock_tree.specs.Told.{change, change_at, end_at, same as is_same}
 use Rattle.pm_clock_tree.specs.Tree.{HasAllPlaces, Runs, Seen, Tree, divider, index, is_enabled, running, runs, setting_of}
 use Rattle.pm_clock_tree.specs.Tree.Runs.{root, driven}
@@ -75,15 +75,15 @@ runs_alike law Among s t first second same c among =
 -- ---- what was chosen
 
 -- the clock at a place has its number
-numbered_at : (number k : ℕ) → place_of number ≡ Some k → (def : ClockDef) × (slice_get clocks k ≡ Some def) × (def.number ≡ number)
+numbered_at : (number k : ℕ) → clock_place number ≡ Some k → (def : ClockDef) × (slice_get clocks k ≡ Some def) × (def.number ≡ number)
 numbered_at number k place =
     let first = position-first (is_numbered number) clocks k place in
     (first.element, first.here, eqb-true first.element.number number first.passes)
 
 setting_alike : (Among : ℕ → Type 0) (s t : Tree) → HaveSame Among s t → (c : ℕ) → Among c → setting_of c s ≡ setting_of c t
-setting_alike Among s t same c among = by (place_of c) refl
+setting_alike Among s t same c among = by (clock_place c) refl
   where
-    by : (place : Option ℕ) → place_of c ≡ place
+    by : (place : Option ℕ) → clock_place c ≡ place
         → option_and_then (λ k. slice_get s.settings k) place ≡ option_and_then (λ k. slice_get t.settings k) place
     by None is = refl
     by (Some k) is =
@@ -117,15 +117,15 @@ MayAlike a b master c = (k : ℕ) (def : ClockDef) → slice_get clocks k ≡ So
 
 refused_same : (Among : ℕ → Type 0) (s t : Tree) → HaveSame Among s t → (a b : Seen) (master : NodeId) (call : ClockCall) → MayAlike a b master call.clock
     → Among call.clock → refused a master call s ≡ refused b master call t
-refused_same Among s t same a b master call permit among = by (place_of call.clock) refl
+refused_same Among s t same a b master call permit among = by (clock_place call.clock) refl
   where
-    none : (tree : Tree) → place_of call.clock ≡ None → rival master call tree ≡ (if is_setting call.act then None else None)
+    none : (tree : Tree) → clock_place call.clock ≡ None → rival master call tree ≡ (if is_setting call.act then None else None)
     none tree is = ap (λ place. if is_setting call.act then rival_at master place tree.holders else None) is
 
-    no_may : (seen : Seen) → place_of call.clock ≡ None → may_change seen master call ≡ (not (is_change call.act) || false)
+    no_may : (seen : Seen) → clock_place call.clock ≡ None → may_change seen master call ≡ (not (is_change call.act) || false)
     no_may seen is = ap (λ found. not (is_change call.act) || may_use_in seen master found) (find-None (is_numbered call.clock) clocks is)
 
-    by : (place : Option ℕ) → place_of call.clock ≡ place → refused a master call s ≡ refused b master call t
+    by : (place : Option ℕ) → clock_place call.clock ≡ place → refused a master call s ≡ refused b master call t
     by None is =
         ap (λ may. refused_by (is_missing call) (is_in_range call) may (rival master call s)) (no_may a is ∙ sym (no_may b is))
         ∙ ap (refused_by (is_missing call) (is_in_range call) (may_change b master call)) (none s is ∙ sym (none t is))
@@ -145,7 +145,7 @@ responses_alike law Among s t first second same a b master call permit among =
 
 -- the change of a clock, by whether it runs before and after
 abbrev pub change_by : ℕ → Bool → Bool → Option ClockChange
-change_by number from to = if is_some (place_of number) && not (is_same from to) then Some (change number from to) else None
+change_by number from to = if is_some (clock_place number) && not (is_same from to) then Some (change number from to) else None
 
 pub changes_alike : (c : ℕ) (s t after_s after_t : Tree) → runs c s ≡ runs c t → runs c after_s ≡ runs c after_t
     → change_at c (record { tree = after_s; told = running s }) ≡ change_at c (record { tree = after_t; told = running t })
@@ -154,7 +154,7 @@ changes_alike c s t after_s after_t before after =
 
 abbrev pub end_by : ℕ → Bool → ℕ → ℕ → Option ClockEnd
 end_by number on divider index =
-    if is_some (place_of number) && on then Some (record { clock = number; divider = divider; index = index }) else None
+    if is_some (clock_place number) && on then Some (record { clock = number; divider = divider; index = index }) else None
 
 pub ends_alike : RunByTheirParents → (Among : ℕ → Type 0) (s t : Tree) → HasAllPlaces s → HasAllPlaces t → HaveSame Among s t
     → (c : ℕ) → Among c → end_at c s ≡ end_at c t

@@ -15,7 +15,7 @@ use Rattle.pm_clock_tree.specs.declared.table.ClockDef.{ClockDef}
 use Rattle.pm_clock_tree.specs.Calls.{is_change}
 use Rattle.pm_clock_tree.specs.Followed.{AreHoldersPermitted, ArePermitted, emptied, followed, permitted, reviewed, settled_holder}
 use Rattle.pm_clock_tree.specs.Served.{changed, changed_at, is_in_range, is_missing, may_change, refused, served, with_enable}
-use Rattle.pm_clock_tree.specs.Table.{clocks, def_of, is_numbered, place_of}
+use Rattle.pm_clock_tree.specs.Table.{clock_place, clocks, def_of, is_numbered}
 use Rattle.pm_clock_tree.specs.Tree.{Holder, Seen, Tree}
 use Rattle.pm_clock_tree.proofs.HolderLemmas.{none_permitted}
 
@@ -142,14 +142,14 @@ served_permitted seen master call tree all = by_refusal (refused seen master cal
     allowed : refused seen master call tree ≡ None → may_change seen master call ≡ true
     allowed is = accepted (is_missing call) (is_in_range call) (may_change seen master call) _ _ _ _ is
 
-    gives : (k : ℕ) → refused seen master call tree ≡ None → place_of call.clock ≡ Some k → call.act ≡ act.Enable
+    gives : (k : ℕ) → refused seen master call tree ≡ None → clock_place call.clock ≡ Some k → call.act ≡ act.Enable
         → (def : ClockDef) → slice_get clocks k ≡ Some def → seen.may_use master def.node ≡ true
     gives k is place enable def here =
         sym (ap (may_use_in seen master) (find-Some (is_numbered call.clock) clocks k place ∙ here))
         ∙ sym (ap (λ (a : ClockAct). not (is_change a) || may_use_in seen master (def_of call.clock)) enable)
         ∙ allowed is
 
-    by_act : (k : ℕ) → refused seen master call tree ≡ None → place_of call.clock ≡ Some k
+    by_act : (k : ℕ) → refused seen master call tree ≡ None → clock_place call.clock ≡ Some k
         → (a : ClockAct) → call.act ≡ a → ArePermitted seen (changed master a k tree)
     by_act k is place act.Enable enable =
         enables_permitted seen master k true (λ yes def here. gives k is place enable def here) tree.holders all
@@ -161,12 +161,12 @@ served_permitted seen master call tree all = by_refusal (refused seen master cal
     by_act k is place (act.SetParent index) other = all
     by_act k is place act.Parent other = all
 
-    by_place : refused seen master call tree ≡ None → (p : Option ℕ) → place_of call.clock ≡ p
+    by_place : refused seen master call tree ≡ None → (p : Option ℕ) → clock_place call.clock ≡ p
         → ArePermitted seen (changed_at master call.act p tree)
     by_place is None place = all
     by_place is (Some k) place = by_act k is place call.act refl
 
     by_refusal : (r : Option Response) → refused seen master call tree ≡ r
-        → ArePermitted seen (if is_some r then tree else changed_at master call.act (place_of call.clock) tree)
+        → ArePermitted seen (if is_some r then tree else changed_at master call.act (clock_place call.clock) tree)
     by_refusal (Some r) is = all
-    by_refusal None is = by_place is (place_of call.clock) refl
+    by_refusal None is = by_place is (clock_place call.clock) refl

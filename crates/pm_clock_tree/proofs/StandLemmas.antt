@@ -8,7 +8,7 @@ use Rattle.pm_clock_tree.specs.declared.calls.ClockCall.{ClockCall}
 use Rattle.pm_clock_tree.specs.declared.table.ClockDef.{ClockDef}
 use Rattle.pm_clock_tree.specs.Followed.{ArePermitted, PermitAlike, Stands, emptied, followed, permitted, reviewed, settled_holder}
 use Rattle.pm_clock_tree.specs.Served.{changed, changed_at, refused, served}
-use Rattle.pm_clock_tree.specs.Table.{clocks, place_of}
+use Rattle.pm_clock_tree.specs.Table.{clock_place, clocks}
 use Rattle.pm_clock_tree.specs.Tree.{Holder, Seen, Tree, idle_holder, loaded, roots_seen}
 use Rattle.pm_clock_tree.proofs.HolderLemmas.{idle_settled}
 use Rattle.pm_clock_tree.proofs.PermittedLemmas.{followed_permitted, holder_twice}
@@ -105,5 +105,5 @@ kept_roots false tree new is = is
 
 pub served_roots : (seen : Seen) (master : NodeId) (call : ClockCall) (tree : Tree) → (served seen master call tree).roots ≡ tree.roots
 served_roots seen master call tree =
-    kept_roots (is_some (refused seen master call tree)) tree (changed_at master call.act (place_of call.clock) tree)
-    (changed_at_roots master call.act (place_of call.clock) tree)
+    kept_roots (is_some (refused seen master call tree)) tree (changed_at master call.act (clock_place call.clock) tree)
+    (changed_at_roots master call.act (clock_place call.clock) tree)

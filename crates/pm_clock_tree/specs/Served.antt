@@ -11,7 +11,7 @@ use Rattle.pm_clock_tree.specs.declared.calls.ClockAct.{ClockAct}
 use Rattle.pm_clock_tree.specs.declared.calls.ClockAct.TheVariants.{Enable, Disable, State, SetDivider, Divider, SetParent, Parent}
 use Rattle.pm_clock_tree.specs.declared.calls.ClockCall.{ClockCall}
 use Rattle.pm_clock_tree.specs.Calls.{is_change, is_setting}
-use Rattle.pm_clock_tree.specs.Table.{def_of, is_root, parent_at, place_of}
+use Rattle.pm_clock_tree.specs.Table.{clock_place, def_of, is_root, parent_at}
 use Rattle.pm_clock_tree.specs.Tree.{Holder, Seen, Tree, divider, has, index, runs}
 
 -- ---- the checks
@@ -52,7 +52,7 @@ rival_at master (Some k) holders = option_map (λ (holder : Holder). holder.node
 
 abbrev pub rival : NodeId → ClockCall → Tree → Option NodeId
 rival master call tree =
-    if is_setting call.act then rival_at master (place_of call.clock) tree.holders else None
+    if is_setting call.act then rival_at master (clock_place call.clock) tree.holders else None
 
 -- the refusal of the first check that fails
 abbrev pub refused : Seen → NodeId → ClockCall → Tree → Option Response
@@ -112,4 +112,4 @@ changed_at master act (Some k) tree = changed master act k tree
 -- the tree after a call: a refused one changes nothing
 abbrev pub served : Seen → NodeId → ClockCall → Tree → Tree
 served seen master call tree =
-    if is_some (refused seen master call tree) then tree else changed_at master call.act (place_of call.clock) tree
+    if is_some (refused seen master call tree) then tree else changed_at master call.act (clock_place call.clock) tree

@@ -1,10 +1,8 @@
 -- The table of clocks. It is this project's own; the nodes are those of UG1200.
 use Rattle.std.specs.Prelude.{ℕ, ◌==◌, Bool, if◌then◌else◌, List, [], ◌∷◌, find, length, position, slice_get, is_some, Option, Some, None}
+use Rattle.pm_base.specs.Names.{numbered_node as node}
 use Rattle.pm_base.specs.declared.names.NodeId.{NodeId}
 use Rattle.pm_clock_tree.specs.declared.table.ClockDef.{ClockDef}
-
-abbrev pub node : ℕ → NodeId
-node number = record { 0 = number }
 
 -- the slaves that the roots come from, which are the clocks 0 to 4
 abbrev pub roots : List NodeId
@@ -46,8 +44,8 @@ is_numbered number def = def.number == number
 abbrev pub def_of : ℕ → Option ClockDef
 def_of number = find (is_numbered number) clocks
 
-abbrev pub place_of : ℕ → Option ℕ
-place_of number = position (is_numbered number) clocks
+abbrev pub clock_place : ℕ → Option ℕ
+clock_place number = position (is_numbered number) clocks
 
 -- the parent of a clock at an index
 abbrev pub parent_at : ℕ → ClockDef → Option ℕ

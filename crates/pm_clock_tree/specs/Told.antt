@@ -1,10 +1,10 @@
 -- What is told of clocks: which of them began or ceased to run since the last time.
-use Rattle.std.specs.Prelude.{ℕ, Bool, true, false, not, ◌&&◌, if◌then◌else◌, List, [], ◌∷◌, flat_map, is_some, Option, Some, None}
+use Rattle.std.specs.Prelude.{ℕ, Bool, true, false, not, ◌&&◌, if◌then◌else◌, List, flat_map, is_some, Option, Some, None, option_to_list}
 use Rattle.pm_base.specs.declared.names.NodeId.{NodeId}
 use Rattle.pm_clock_tree.specs.declared.table.ClockDef.{ClockDef}
 use Rattle.pm_clock_tree.specs.declared.clock_tree.ClockChange.{ClockChange}
 use Rattle.pm_clock_tree.specs.declared.clock_tree.ClockEnd.{ClockEnd}
-use Rattle.pm_clock_tree.specs.Table.{clocks, place_of}
+use Rattle.pm_clock_tree.specs.Table.{clock_place, clocks}
 use Rattle.pm_clock_tree.specs.Tree.{Seen, Tree, divider, index, is_running, loaded, running, runs}
 
 -- the clock tree, and which clocks ran when they were told of last
@@ -26,17 +26,13 @@ same false on = not on
 -- the change of a clock that is no root, where it changed
 abbrev pub change_at : ℕ → Clocked → Option ClockChange
 change_at number clocked =
-    if is_some (place_of number) && not (same (was_running number clocked) (runs number clocked.tree))
+    if is_some (clock_place number) && not (same (was_running number clocked) (runs number clocked.tree))
     then Some (change number (was_running number clocked) (runs number clocked.tree))
     else None
 
 -- all of them, by number
-abbrev pub listed : {X : Type 0} → Option X → List X
-listed None = []
-listed (Some one) = one ∷ []
-
 abbrev pub changes : Clocked → List ClockChange
-changes clocked = flat_map (λ (def : ClockDef). listed (change_at def.number clocked)) clocks
+changes clocked = flat_map (λ (def : ClockDef). option_to_list (change_at def.number clocked)) clocks
 
 -- they are told of
 abbrev pub told : Clocked → Clocked
@@ -48,10 +44,10 @@ loaded_clocks masters seen = record { tree = loaded masters seen; told = running
 -- a clock that is no root, where it runs, with its divider and the index of its parent
 abbrev pub end_at : ℕ → Tree → Option ClockEnd
 end_at number tree =
-    if is_some (place_of number) && runs number tree
+    if is_some (clock_place number) && runs number tree
     then Some (record { clock = number; divider = divider number tree; index = index number tree })
     else None
 
 -- all of them, by number
 abbrev pub ends : Tree → List ClockEnd
-ends tree = flat_map (λ (def : ClockDef). listed (end_at def.number tree)) clocks
+ends tree = flat_map (λ (def : ClockDef). option_to_list (end_at def.number tree)) clocks

@@ -5,7 +5,7 @@ use Rattle.std.specs.Option.{option_and_then, option_map_or}
 use Rattle.pm_base.specs.declared.names.NodeId.{NodeId}
 use Rattle.pm_clock_tree.specs.declared.table.ClockDef.{ClockDef}
 use Rattle.pm_clock_tree.specs.declared.tree.Setting.{Setting}
-use Rattle.pm_clock_tree.specs.Table.{clock_count, clocks, parent_at, place_of, root_count, roots}
+use Rattle.pm_clock_tree.specs.Table.{clock_count, clock_place, clocks, parent_at, root_count, roots}
 
 -- what clocks look at in a book: which masters are off, which slaves a master may use by the object in force, and which
 -- slaves of the chip stand in a state other than 0
@@ -37,7 +37,7 @@ is_enabled k holders = list_any (has k) holders
 
 -- the setting of a clock: a root has none
 abbrev pub setting_of : ℕ → Tree → Option Setting
-setting_of number tree = option_and_then (λ k. slice_get tree.settings k) (place_of number)
+setting_of number tree = option_and_then (λ k. slice_get tree.settings k) (clock_place number)
 
 -- its divider and the index of its parent, and 0 for a root or where there is no such clock
 abbrev pub divider : ℕ → Tree → ℕ

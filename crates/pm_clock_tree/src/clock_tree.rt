@@ -12,7 +12,7 @@ use crate::calls::{ClockAct, ClockCall};
 use crate::checks::is_change;
 use crate::laws::clocks_run_by_their_parents;
 use crate::scene::Scene;
-use crate::table::{ClockDef, all_clocks, place_of, roots};
+use crate::table::{ClockDef, all_clocks, clock_place, roots};
 use crate::tree::{Setting, Tree};
 use pm_base::{BoundedList, NoMemory, NodeId, Unit, at_or};
 use pm_ipi::Response;
@@ -162,7 +162,7 @@ impl ClockTree {
     pub fn change(&self, number: u32) -> Option<ClockChange>
         ensures { result ≡ change_at number self.now }
     {
-        place_of(number)?;
+        clock_place(number)?;
         let from = at_or(self.told.as_slice(), number as usize, false);
         let to = at_or(self.running.as_slice(), number as usize, false);
         if from == to {
@@ -179,7 +179,7 @@ impl ClockTree {
     pub fn end(&self, number: u32) -> Option<ClockEnd>
         ensures { result ≡ end_at number self.now.tree }
     {
-        place_of(number)?;
+        clock_place(number)?;
         if !self.runs(number) {
             return None;
         }

@@ -1,7 +1,7 @@
 //! The table of clocks, which is this project's own.
 
 ghost use Rattle.std.specs.Prelude.{◌≡◌};
-ghost use Rattle.pm_clock_tree.specs.Table.{clocks, def_of, is_root, parent_at, place_of, roots};
+ghost use Rattle.pm_clock_tree.specs.Table.{clock_place, clocks, def_of, is_root, parent_at, roots};
 
 use pm_base::NodeId;
 
@@ -121,8 +121,8 @@ pub fn all_clocks() -> &'static [ClockDef]
 }
 
 /// The place of a clock among those that are no roots.
-pub(crate) fn place_of(number: u32) -> Option<usize>
-    ensures { result ≡ place_of number }
+pub(crate) fn clock_place(number: u32) -> Option<usize>
+    ensures { result ≡ clock_place number }
 {
     all_clocks().iter().position(|def| def.number == number)
 }

@@ -4,7 +4,7 @@ ghost use Rattle.std.specs.Prelude.{◌≡◌, ◌≤◌, ◌||◌, IfOk, Some, 
 ghost use Rattle.pm_base.specs.declared.names.Unit.{Unit as Part};
 ghost use Rattle.pm_clock_tree.specs.Followed.{AreHoldersPermitted, ArePermitted, RootsStand, is_source, has_source, rooted, settled, settled_holder};
 ghost use Rattle.pm_clock_tree.specs.Served.{changed, changed_at, may_change, is_in_range, is_missing, is_rival, refused, rival, rival_at, with_divider, with_enable, with_index, with_setting};
-ghost use Rattle.pm_clock_tree.specs.Table.{clock_count, place_of, root_count};
+ghost use Rattle.pm_clock_tree.specs.Table.{clock_count, clock_place, root_count};
 ghost use Rattle.pm_clock_tree.specs.Tree as spec;
 ghost use Rattle.pm_clock_tree.specs.Tree.{HasAllPlaces, first_setting, idle_holder, is_enabled, loaded, roots_seen};
 
@@ -12,7 +12,7 @@ use crate::calls::{ClockAct, ClockCall};
 use crate::checks::{is_in_range, is_missing, is_setting, may_change};
 use crate::holders::Holder;
 use crate::scene::Scene;
-use crate::table::{all_clocks, place_of, roots};
+use crate::table::{all_clocks, clock_place, roots};
 use pm_base::{BoundedList, NoMemory, NodeId, Unit};
 use pm_ipi::Response;
 use pm_ipi::status::{INVALID_NODE, INVALID_PARAMETER, NO_ACCESS};
@@ -94,7 +94,7 @@ impl Tree {
     fn setting(&self, number: u32) -> Option<Setting>
         ensures { result ≡ spec.setting_of number self.now }
     {
-        let place = place_of(number)?;
+        let place = clock_place(number)?;
         self.settings.get(place).copied()
     }
 
@@ -149,7 +149,7 @@ impl Tree {
         if !is_setting(call.act) {
             return None;
         }
-        match place_of(call.clock) {
+        match clock_place(call.clock) {
             Some(k) => self.rival_at(master, k),
             None => None,
         }
@@ -181,9 +181,9 @@ impl Tree {
 
     /// What a call of a master does, that passed its checks.
     pub(crate) fn change(&mut self, master: NodeId, call: &ClockCall)
-        ensures { self.new ≡ changed_at master call.now.act (place_of call.now.clock) self.old }
+        ensures { self.new ≡ changed_at master call.now.act (clock_place call.now.clock) self.old }
     {
-        if let Some(k) = place_of(call.clock) {
+        if let Some(k) = clock_place(call.clock) {
             self.change_at(master, call.act, k);
         }
     }

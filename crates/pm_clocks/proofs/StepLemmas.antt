@@ -5,6 +5,7 @@ use Rattle.std.specs.Prelude.{slice_get}
 use Rattle.std.specs.List.{list_any}
 use Rattle.std.proofs.lemmas.Bool.{eqb-true}
 use Rattle.std.proofs.lemmas.Map.Views.{any-filter_same}
+use Rattle.pm_base.specs.Names.{numbered_node as node}
 use Rattle.pm_base.proofs.Booleans.{equal, first_passes, later_passes, neither}
 use Rattle.pm_base.specs.declared.events.Event.{Event}
 use Rattle.pm_base.specs.declared.events.Event.TheVariants.{Pass}
@@ -28,7 +29,7 @@ use Rattle.pm_core.proofs.Refused.{pass_stays}
 use Rattle.pm_clock_tree.specs.declared.calls.ClockCall.{ClockCall}
 use Rattle.pm_clock_tree.specs.Followed.{ArePermitted, PermitAlike, RootsStand, followed, has_source, is_source, served_by}
 use Rattle.pm_clock_tree.specs.Laws.{StandAfterSteps, StayPermitted}
-use Rattle.pm_clock_tree.specs.Table.{node, roots}
+use Rattle.pm_clock_tree.specs.Table.{roots}
 use Rattle.pm_clock_tree.specs.Tree.{Seen, Tree}
 use Rattle.pm_clocks.specs.Clocked.{HasStepped, StandsOver, is_on, is_slave, view_of}
 

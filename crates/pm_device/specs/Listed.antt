@@ -1,6 +1,7 @@
 -- A device that fails at listed commands.
-use Rattle.std.specs.Prelude.{◌≡◌, ℕ, ◌+◌, ◌-◌, ◌^◌, ◌==◌, min, Bool, true, false, not, ◌||◌, unwrap_or, List, [], ◌∷◌, ◌++◌, ⊤}
+use Rattle.std.specs.Prelude.{◌≡◌, ℕ, ◌+◌, ◌-◌, ◌==◌, Bool, true, false, not, ◌||◌, unwrap_or, List, [], ◌∷◌, ◌++◌, ⊤}
 use Rattle.std.specs.List.{list_any}
+use Rattle.pm_base.specs.Faults.{raised}
 use Rattle.pm_base.specs.declared.names.Unit.{Unit}
 use Rattle.pm_base.specs.declared.names.Command.{Command}
 use Rattle.pm_topology.specs.UnitMap.{all_at, value_of, with_value}
@@ -27,19 +28,15 @@ listed_moment d = record {
   faults = d.faults;
 }
 
--- the next number, or the last one
-abbrev pub next : ℕ → ℕ
-next count = min (count + 1) (2 ^ 64 - 1)
-
 -- the next command fails where its number is listed, and on a unit that isn't there
 abbrev pub next_fails : Listed → Unit → Bool
-next_fails d unit = list_any (λ number. number == next d.commands) d.failing || not (is_there d.values unit)
+next_fails d unit = list_any (λ number. number == raised d.commands) d.failing || not (is_there d.values unit)
 
 -- after a command that was carried out, and after one that failed
 abbrev pub listed_after : Command → Bool → Listed → Listed
 listed_after command true d =
-    record d { values = with_value command.unit command.value d.values; commands = next d.commands }
-listed_after command false d = record d { commands = next d.commands; faults = next d.faults }
+    record d { values = with_value command.unit command.value d.values; commands = raised d.commands }
+listed_after command false d = record d { commands = raised d.commands; faults = raised d.faults }
 
 -- the units and the counts after an act; a node that is rigged changes nothing, and a fit none of the counts
 abbrev pub listed_done : Act → Listed → Listed

@@ -6,7 +6,7 @@ ghost use Rattle.pm_base.specs.Faults.{HasCause};
 ghost use Rattle.pm_base.specs.declared.names.Unit.{Unit as Part};
 ghost use Rattle.pm_device.specs.Act.{Order, value_by};
 ghost use Rattle.pm_device.specs.Fresh.{IsFresh};
-ghost use Rattle.pm_device.specs.Listed.{listed_after, listed_moment, next, next_fails};
+ghost use Rattle.pm_device.specs.Listed.{listed_after, listed_moment, next_fails};
 
 use crate::cells::is_there;
 use crate::device::Device;
@@ -91,8 +91,9 @@ impl ListedDevice {
 
 impl Device for ListedDevice {
     ghost use Rattle.std.specs.Prelude.{⊤, IfErr};
+    ghost use Rattle.pm_base.specs.Faults.{raised};
     ghost use Rattle.pm_device.specs.Act.{Fit, Order, Rig};
-    ghost use Rattle.pm_device.specs.Listed.{ListedDoes, listed_by, listed_moment, next, next_fails};
+    ghost use Rattle.pm_device.specs.Listed.{ListedDoes, listed_by, listed_moment, next_fails};
 
     ghost values_observable = { ⊤ };
 
@@ -107,7 +108,7 @@ impl Device for ListedDevice {
         ensures cause { HasCause self.old.faults self.new.faults result }
         ensures does { ListedDoes (Order command (is_ok result)) self.old self.new }
         ensures listed { is_ok result ≡ not (next_fails self.old command.unit) }
-        ensures number { self.new.commands ≡ next self.old.commands }
+        ensures number { self.new.commands ≡ raised self.old.commands }
         ensures failing { self.new.failing ≡ self.old.failing }
         ensures after { self.new ≡ listed_by (Order command (is_ok result)) self.old }
     {

@@ -13,7 +13,7 @@ use Rattle.pm_clock_tree.specs.declared.tree.Setting.{Setting}
 use Rattle.pm_clock_tree.specs.Followed.{Stands, after_step, followed}
 use Rattle.pm_clock_tree.specs.Laws.{RunByTheirParents, StandAfterSteps}
 use Rattle.pm_clock_tree.specs.Served.{changed, changed_at, refused, served, with_divider, with_index, with_setting}
-use Rattle.pm_clock_tree.specs.Table.{clock_count, place_of, roots}
+use Rattle.pm_clock_tree.specs.Table.{clock_count, clock_place, roots}
 use Rattle.pm_clock_tree.specs.Tree.{HasAllPlaces, Seen, Tree, first_setting, loaded}
 use Rattle.pm_clocks.specs.Clocked.{made, masters_of, view_of, tree_after_core}
 use Rattle.pm_run.specs.Run.{Core, Setup}
@@ -50,9 +50,9 @@ places_at master act (Some k) tree places = places_changed master act k tree pla
 places_served : (seen : Seen) (master : NodeId) (call : ClockCall) (tree : Tree) → HasAllPlaces tree → HasAllPlaces (served seen master call tree)
 places_served seen master call tree places = by (is_some (refused seen master call tree))
   where
-    by : (is : Bool) → HasAllPlaces (if is then tree else changed_at master call.act (place_of call.clock) tree)
+    by : (is : Bool) → HasAllPlaces (if is then tree else changed_at master call.act (clock_place call.clock) tree)
     by true = places
-    by false = places_at master call.act (place_of call.clock) tree places
+    by false = places_at master call.act (clock_place call.clock) tree places
 
 places_followed : (seen : Seen) (tree : Tree) → HasAllPlaces tree → HasAllPlaces (followed seen tree)
 places_followed seen tree places = record { settings = places.settings; roots = length-map roots seen.is_on }

@@ -1,6 +1,6 @@
 -- The lines of clocks are written one after another, by the table of clocks.
 use Rattle.std.proofs.Common.{◌≡◌, ℕ, ◌+◌, ◌<◌, ◌≤◌, List, [], ◌∷◌, ◌++◌, length, get_or, map, take, take_all, suc, Result, refl, sym, ap, subst, ◌∙◌, arith}
-use Rattle.std.specs.Prelude.{⊤, flat_map}
+use Rattle.std.specs.Prelude.{⊤, flat_map, option_to_list}
 use Rattle.std.proofs.Math.Seq.{take-suc}
 use Rattle.std.proofs.lemmas.Grind.{flat_map-append}
 use Rattle.std.proofs.lemmas.List.{append-nil, map-append}
@@ -10,7 +10,7 @@ use Rattle.pm_clock_tree.specs.declared.clock_tree.ClockChange.{ClockChange}
 use Rattle.pm_clock_tree.specs.declared.clock_tree.ClockEnd.{ClockEnd}
 use Rattle.pm_clock_tree.specs.declared.table.ClockDef.{ClockDef}
 use Rattle.pm_clock_tree.specs.Table.{clocks}
-use Rattle.pm_clock_tree.specs.Told.{Clocked, change_at, changes, end_at, listed}
+use Rattle.pm_clock_tree.specs.Told.{Clocked, change_at, changes, end_at}
 use Rattle.pm_clock_tree.specs.Tree.{Tree}
 use Rattle.pm_trace.specs.Notes.{notes_text}
 use Rattle.pm_drive.specs.Clocks.{clock_note, end_line, ends_text}
@@ -19,19 +19,19 @@ use Rattle.pm_engine.proofs.WritesLemmas.{notes_after, on-both}
 
 -- what is written of a clock of the table: of its change, and at the end
 abbrev pub turn_text : ℕ → Clocked → ClockDef → List ℕ
-turn_text n clocked def = notes_text n (map clock_note (listed (change_at def.number clocked)))
+turn_text n clocked def = notes_text n (map clock_note (option_to_list (change_at def.number clocked)))
 
 abbrev pub end_text : Tree → ClockDef → List ℕ
-end_text tree def = flat_map end_line (listed (end_at def.number tree))
+end_text tree def = flat_map end_line (option_to_list (end_at def.number tree))
 
 -- of all of them
 pub turns_are : (n : ℕ) (clocked : Clocked) → flat_map (turn_text n clocked) clocks ≡ notes_text n (map clock_note (changes clocked))
 turns_are n clocked = by clocks
   where
     turn : ClockDef → List ClockChange
-    turn def = listed (change_at def.number clocked)
+    turn def = option_to_list (change_at def.number clocked)
 
-    by : (defs : List ClockDef) → flat_map (turn_text n clocked) defs ≡ notes_text n (map clock_note (flat_map (λ (def : ClockDef). listed (change_at def.number clocked)) defs))
+    by : (defs : List ClockDef) → flat_map (turn_text n clocked) defs ≡ notes_text n (map clock_note (flat_map (λ (def : ClockDef). option_to_list (change_at def.number clocked)) defs))
     by [] = refl
     by (def ∷ defs) =
         let later : List ClockChange = flat_map turn defs in
@@ -43,9 +43,9 @@ pub ends_are : (tree : Tree) → flat_map (end_text tree) clocks ≡ ends_text t
 ends_are tree = by clocks
   where
     end : ClockDef → List ClockEnd
-    end def = listed (end_at def.number tree)
+    end def = option_to_list (end_at def.number tree)
 
-    by : (defs : List ClockDef) → flat_map (end_text tree) defs ≡ flat_map end_line (flat_map (λ (def : ClockDef). listed (end_at def.number tree)) defs)
+    by : (defs : List ClockDef) → flat_map (end_text tree) defs ≡ flat_map end_line (flat_map (λ (def : ClockDef). option_to_list (end_at def.number tree)) defs)
     by [] = refl
     by (def ∷ defs) =
         ap (λ (more : List ℕ). end_text tree def ++ more) (by defs)

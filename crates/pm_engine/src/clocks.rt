@@ -1,7 +1,7 @@
 //! The lines of clocks that began or ceased to run in a script line are written.
 
-ghost use Rattle.std.specs.Prelude.{◌≡◌, map};
-ghost use Rattle.pm_clock_tree.specs.Told.{changes, listed, told};
+ghost use Rattle.std.specs.Prelude.{◌≡◌, map, option_to_list};
+ghost use Rattle.pm_clock_tree.specs.Told.{changes, told};
 ghost use Rattle.pm_drive.specs.Clocks.{clock_note};
 ghost use Rattle.pm_trace.specs.Notes.{notes_text};
 ghost use Rattle.pm_engine.specs.Writes.{WritesOn};
@@ -74,7 +74,7 @@ fn change_on<O: Sink>(
     change: Option<ClockChange>,
     out: &mut O,
 ) -> Result<(), Failed>
-    ensures { WritesOn O.Sink (notes_text number (map clock_note (listed change))) written result out.old out.new }
+    ensures { WritesOn O.Sink (notes_text number (map clock_note (option_to_list change))) written result out.old out.new }
 {
     match change {
         None => written,

@@ -1,8 +1,7 @@
 //! The text of a run is written: the lines of a step, and the closing table.
 
-ghost use Rattle.std.specs.Prelude.{◌≡◌, ◌<◌, ◌∷◌, [], Some, flat_map, length, map, slice_get};
+ghost use Rattle.std.specs.Prelude.{◌≡◌, ◌<◌, ◌∷◌, [], Some, flat_map, length, map, slice_get, option_to_list};
 ghost use Rattle.pm_apply.specs.Part.{part_in};
-ghost use Rattle.pm_clock_tree.specs.Told.{listed};
 ghost use Rattle.pm_state.specs.Units.{units};
 ghost use Rattle.pm_split.specs.Split.{noted, noted_call};
 ghost use Rattle.pm_split.specs.Split.Note.{NoTask};
@@ -237,7 +236,7 @@ fn end_on<O: Sink>(
     end: Option<ClockEnd>,
     out: &mut O,
 ) -> Result<(), Failed>
-    ensures { WritesOn O.Sink (flat_map end_line (listed end)) written result out.old out.new }
+    ensures { WritesOn O.Sink (flat_map end_line (option_to_list end)) written result out.old out.new }
 {
     match end {
         None => written,

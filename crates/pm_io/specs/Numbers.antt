@@ -16,6 +16,10 @@ number_of word =
     if (slice_index word 0 == 48) && (slice_index word 1 == 120) then value_of 16 (drop 2 word)
     else value_of 10 word
 
+-- the greatest number of 32 bits
+abbrev pub greatest_number : ℕ
+greatest_number = 4294967295
+
 -- a value that is at most the greatest one
 abbrev pub at_most : ℕ → Option ℕ → Option ℕ
 at_most greatest None = None

@@ -18,7 +18,8 @@ use Rattle.pm_reach.specs.declared.routes.Route.{Route}
 use Rattle.pm_reach.specs.Border.{IsIn, Reaches}
 use Rattle.pm_reach.specs.Brings.{brings}
 use Rattle.pm_reach.specs.Leads.{node_at}
-use Rattle.pm_reach.specs.Membership.{master_member, master_members, member_by, members_of, unit_member, unit_members, unit_number}
+use Rattle.pm_base.specs.Names.{unit_number}
+use Rattle.pm_reach.specs.Membership.{master_member, master_members, member_by, members_of, unit_member, unit_members}
 use Rattle.pm_reach.specs.Paths.{AreLeast}
 use Rattle.pm_isolate.specs.Listed.{HasMember}
 

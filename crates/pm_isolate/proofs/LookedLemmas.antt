@@ -24,7 +24,7 @@ use Rattle.pm_state.specs.Units.{units}
 use Rattle.pm_state.specs.Values.{point_at, shown, value, value_at}
 use Rattle.pm_core.specs.Step.{effect}
 use Rattle.pm_run.specs.Run.{Stand, book_after, loaded, setup, setup_of, split}
-use Rattle.pm_record.specs.Places.{has_place}
+use Rattle.pm_base.specs.Places.{has_place}
 use Rattle.pm_isolate.specs.Marks.{Marks, is_proc, proc_places, renewed_along, renewed_at}
 use Rattle.pm_isolate.specs.Moves.{Logged, cleared, is_logged, line_moves}
 use Rattle.pm_laws.specs.Quiet.{quiet_event}

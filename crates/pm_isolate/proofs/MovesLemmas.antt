@@ -14,7 +14,7 @@ use Rattle.pm_state.specs.Values.{value}
 use Rattle.pm_step.proofs.Refused.{pass_stays}
 use Rattle.pm_core.specs.Step.{effect, turns_proc}
 use Rattle.pm_run.specs.Run.{Stand, book_after}
-use Rattle.pm_record.specs.Places.{has_place}
+use Rattle.pm_base.specs.Places.{has_place}
 use Rattle.pm_isolate.specs.Marks.{Marks}
 use Rattle.pm_isolate.specs.Moves.{Logged, is_logged, line_moves, logged_along, with_place, with_place_of, with_step, with_turn, with_unit, with_units}
 use Rattle.pm_isolate.proofs.HistoryLemmas.{clash, not_false, one}

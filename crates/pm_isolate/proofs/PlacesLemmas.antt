@@ -12,7 +12,7 @@ use Rattle.pm_topology.specs.UnitMap.{TablePlaceLaws, mapped, place_of, remade, 
 use Rattle.pm_topology.specs.Units.{has_in, is_before, rises, same_unit}
 use Rattle.pm_topology.proofs.UnitMapLaw.{same-sym}
 use Rattle.pm_topology.proofs.UnitsLaw.{none_after, same-refl}
-use Rattle.pm_record.specs.Places.{has_place}
+use Rattle.pm_base.specs.Places.{has_place}
 use Rattle.pm_isolate.specs.Marks.{Marks, is_proc, proc_places, renewed, renewed_along, renewed_at}
 use Rattle.pm_isolate.proofs.HistoryLemmas.{one}
 

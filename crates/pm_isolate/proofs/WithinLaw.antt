@@ -37,7 +37,7 @@ use Rattle.pm_laws.specs.Agree.{Agree}
 use Rattle.pm_laws.specs.Border.{AreObjects, Border, IsClosed, line_beyond, none_within, unit_beyond}
 use Rattle.pm_laws.specs.Both.{Both}
 use Rattle.pm_laws.specs.Quiet.{quiet}
-use Rattle.pm_laws.specs.ReachBorder.{IsBorderOf, border_of, place_of}
+use Rattle.pm_laws.specs.ReachBorder.{IsBorderOf, border_of, configured_place}
 use Rattle.pm_laws.specs.Values.{is_beyond}
 use Rattle.pm_laws.specs.Worlds.{AreWorldsAlike, IsLineAlike}
 use Rattle.pm_isolate.specs.Listed.{AreListed, HasMember, IsKindListed, IsListed, IsOfMember}
@@ -48,7 +48,7 @@ use Rattle.pm_isolate.proofs.ListedLaw.{line_listed, master_listed, power_listed
 -- what is known of the reach of a master and of books that agree beyond it
 pub record ReachLaws : Type 0 where
   pub closed : (fixed : Fixed) (m : NodeId) → AreObjects fixed → IsWellFormed fixed.topology → IsClosed fixed (border_of fixed m)
-  pub exact : (fixed : Fixed) (m : NodeId) (from : ℕ) → place_of fixed.object m ≡ Some from → IsBorderOf fixed from (border_of fixed m)
+  pub exact : (fixed : Fixed) (m : NodeId) (from : ℕ) → configured_place fixed.object m ≡ Some from → IsBorderOf fixed from (border_of fixed m)
   pub values : (border : Border) (unit : Unit) (a b : State) → IsClosed a.fixed border → is_beyond a.fixed.object a.fixed.topology border unit ≡ true → Agree border a b → value unit a ≡ value unit b
   pub modes : (border : Border) (p : ℕ) (a b : State) → unit_beyond a.fixed.object a.fixed.topology border (Proc p) ≡ true → Agree border a b → mode_at p a.now.core.procs ≡ mode_at p b.now.core.procs
   pub alike : (c : Setup) (m : NodeId) (events : List Event) → AreObjects (fixed_of c) → IsWellFormed c.topology → AreWorldsAlike c m events

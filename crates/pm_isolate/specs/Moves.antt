@@ -9,7 +9,7 @@ use Rattle.pm_state.specs.Units.{moved}
 use Rattle.pm_state.specs.Values.{value}
 use Rattle.pm_core.specs.Step.{effect, turns_proc}
 use Rattle.pm_run.specs.Run.{Stand, setup_of, split}
-use Rattle.pm_record.specs.Places.{has_place}
+use Rattle.pm_base.specs.Places.{has_place}
 use Rattle.pm_isolate.specs.Marks.{Marks}
 
 -- the logged places, or all places if there was no room for one, and whether a mode may have changed

@@ -1,7 +1,7 @@
 -- Two lines whose core steps are beside one another agree, list by list over the core steps of each.
 use Rattle.std.proofs.Common.{◌≡◌, ◌==◌, Bool, true, false, not, ◌&&◌, if◌then◌else◌, List, [], ◌∷◌, ◌++◌, flat_map, length, refl, ap, sym, ◌∙◌, subst}
 use Rattle.std.specs.Prelude.{option_to_list}
-use Rattle.pm_laws.proofs.Common.{Agree, AreObjects, Border, Both, Event, Fixed, Ipi, IsWellFormed, NodeId, Pass, State, border_of, none_within, place_of}
+use Rattle.pm_laws.proofs.Common.{Agree, AreObjects, Border, Both, Event, Fixed, Ipi, IsWellFormed, NodeId, Pass, State, border_of, none_within, configured_place}
 use Rattle.pm_base.proofs.Booleans.{equal, pair_of, both as both_pass}
 use Rattle.pm_ipi.specs.Calls.{call_of}
 use Rattle.pm_core.specs.declared.replies.Answer.{Answer}
@@ -60,18 +60,18 @@ module _ (c : Setup) (m : NodeId) where
   one_if false x y same = refl
 
   others_beyond : (event : Event) → is_others c.object border m event ≡ true → sender_beyond c.object border event ≡ true
-  others_beyond (Ipi master message) is = (both_pass (not (master.0 == m.0)) (none_within border (place_of c.object master)) is).1
+  others_beyond (Ipi master message) is = (both_pass (not (master.0 == m.0)) (none_within border (configured_place c.object master)) is).1
   others_beyond event is = refl
 
   all_beyond : (event : Event) → is_beyond_all c.object c.topology border m event ≡ true → message_beyond c.object c.topology border event ≡ true
   all_beyond (Ipi master message) is =
       let parts = both_pass (is_others c.object border m (Ipi master message)) (names_beyond c.topology border (call_of message)) is in
-      pair_of (none_within border (place_of c.object master)) (names_beyond c.topology border (call_of message))
+      pair_of (none_within border (configured_place c.object master)) (names_beyond c.topology border (call_of message))
       (others_beyond (Ipi master message) parts.0) parts.1
   all_beyond event is = refl
 
   own_others : (event : Event) → IsOwn c.object c.topology m event → is_others c.object border m event ≡ false
-  own_others (Ipi master message) is = ap (λ t. not t && none_within border (place_of c.object master)) (equal master.0 m.0 is)
+  own_others (Ipi master message) is = ap (λ t. not t && none_within border (configured_place c.object master)) (equal master.0 m.0 is)
   own_others event is = refl
 
   own_beyond : (event : Event) → IsOwn c.object c.topology m event → is_beyond_all c.object c.topology border m event ≡ false

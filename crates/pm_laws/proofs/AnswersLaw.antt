@@ -2,7 +2,7 @@
 -- nothing within is answered the same.
 use Rattle.std.proofs.Common.{◌≡◌, ℕ, Bool, true, false, not, if◌then◌else◌, List, [], ◌∷◌, Option, Some, None, refl, sym, ◌∙◌, ap, subst}
 use Rattle.std.specs.Prelude.{is_some, option_and_then}
-use Rattle.pm_laws.proofs.Common.{Agree, BelowLaws, Border, Called, Event, Fixed, Ipi, IsClosed, IsSound, IsWellFormed, KindLaws, Node, NodeId, Now, Same, State, Topology, Unit, acknowledged, answer_of, answered, call_in, called, effect, call_at, is_awake, may_call, kind_of, master_mode_at, none_within, outputs, place_of, point_at, response_of, verdict, verdict_by}
+use Rattle.pm_laws.proofs.Common.{Agree, BelowLaws, Border, Called, Event, Fixed, Ipi, IsClosed, IsSound, IsWellFormed, KindLaws, Node, NodeId, Now, Same, State, Topology, Unit, acknowledged, answer_of, answered, call_in, called, effect, call_at, is_awake, may_call, kind_of, master_mode_at, none_within, outputs, configured_place, point_at, response_of, verdict, verdict_by}
 use Rattle.pm_base.specs.declared.events.Message.{Message}
 use Rattle.pm_base.specs.declared.names.Unit.TheVariants.{Line}
 use Rattle.pm_base.proofs.Booleans.{both}
@@ -86,7 +86,7 @@ module _ (laws : BelowLaws) (fixed : Fixed) (border : Border) (a b : Now) (same 
   drops_by : (event : Event) → sender_beyond fixed.object border event ≡ true → is_dropped (outputs event first).answer ≡ is_dropped (outputs event second).answer
   drops_by (Ipi master message) beyond =
       dropped_is master (call_of message) (call_in master (call_of message) first) (effect (Ipi master message) first)
-      ∙ (ap not (heard_alike message (place_of fixed.object master) beyond)
+      ∙ (ap not (heard_alike message (configured_place fixed.object master) beyond)
       ∙ sym (dropped_is master (call_of message) (call_in master (call_of message) second) (effect (Ipi master message) second)))
   drops_by _ beyond = refl
 
@@ -112,24 +112,24 @@ module _ (laws : BelowLaws) (fixed : Fixed) (border : Border) (a b : Now) (same 
     node_beyond call wants is =
         first_beyond fixed.topology border (acknowledge_of call) (row_of call).names (names_node call) wants is
 
-    acknowledged_same : (kind : AckKind) (master node : NodeId) (response : Response) → none_within border (place_of fixed.object master) ≡ true
+    acknowledged_same : (kind : AckKind) (master node : NodeId) (response : Response) → none_within border (configured_place fixed.object master) ≡ true
         → (kind ≡ NonBlocking → border.node node.0 ≡ true)
         → acknowledged kind master node response first ≡ acknowledged kind master node response second
     acknowledged_same No master node response beyond is = refl
     acknowledged_same Blocking master node response beyond is = refl
     acknowledged_same NonBlocking master node response beyond is =
-        ap (λ point. Ack master node response.status point (is_awake (master_mode_at (place_of fixed.object master) first)))
+        ap (λ point. Ack master node response.status point (is_awake (master_mode_at (configured_place fixed.object master) first)))
         (point_alike fixed border closed a b same node (is refl))
-        ∙ ap (λ mode. Ack master node response.status (point_at (kind_of fixed.topology node) fixed b.core) (is_awake mode)) (shown_same (place_of fixed.object master) beyond)
+        ∙ ap (λ mode. Ack master node response.status (point_at (kind_of fixed.topology node) fixed b.core) (is_awake mode)) (shown_same (configured_place fixed.object master) beyond)
 
-    answered_same : (response : Option Response) (master : NodeId) (call : Call) → none_within border (place_of fixed.object master) ≡ true
+    answered_same : (response : Option Response) (master : NodeId) (call : Call) → none_within border (configured_place fixed.object master) ≡ true
         → names_beyond fixed.topology border call ≡ true
         → answered response master call first ≡ answered response master call second
     answered_same None master call beyond is = refl
     answered_same (Some response) master call beyond is =
         acknowledged_same (ack_of call) master (node_of call) response beyond (λ wants. node_beyond call wants is)
 
-    after_same : (v : Verdict) (master : NodeId) (call : Call) → none_within border (place_of fixed.object master) ≡ true
+    after_same : (v : Verdict) (master : NodeId) (call : Call) → none_within border (configured_place fixed.object master) ≡ true
         → names_beyond fixed.topology border call ≡ true
         → answer_of v master call first ≡ answer_of v master call second
     after_same Dropped master call beyond is = refl
@@ -142,12 +142,12 @@ module _ (laws : BelowLaws) (kinds : KindLaws) (fixed : Fixed) (border : Border)
       → (outputs event (book_of fixed a)).answer ≡ (outputs event (book_of fixed b)).answer
   answers_by (Ipi master message) sound_a sound_b is =
       let event : Event = Ipi master message in
-      let parts = both (none_within border (place_of fixed.object master)) (names_beyond fixed.topology border (call_of message)) is in
+      let parts = both (none_within border (configured_place fixed.object master)) (names_beyond fixed.topology border (call_of message)) is in
       let after : Agree border (effect event (book_of fixed a)) (effect event (book_of fixed b)) =
       steps.steps_agree laws border event (book_of fixed a) (book_of fixed b) closed sound_a sound_b (record { fixed = refl; now = same })
       in
       ap (λ heard. answer_of (verdict heard) master (call_of message) (effect event (book_of fixed a)))
-      (heard_same laws fixed border a b same kinds closed chip message (place_of fixed.object master) parts.0 parts.1)
+      (heard_same laws fixed border a b same kinds closed chip message (configured_place fixed.object master) parts.0 parts.1)
       ∙ after_same laws fixed border (effect event (book_of fixed a)).now (effect event (book_of fixed b)).now after.now kinds closed chip
       (verdict (call_in master (call_of message) (book_of fixed b))) master (call_of message) parts.0 parts.1
   answers_by _ sound_a sound_b is = refl

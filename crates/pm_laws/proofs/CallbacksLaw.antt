@@ -3,7 +3,7 @@ use Rattle.std.proofs.Common.{◌≡◌, ℕ, ◌+◌, Bool, true, false, not, �
 use Rattle.std.specs.Prelude.{filter, map}
 use Rattle.std.proofs.lemmas.Bool.{eqb-true}
 use Rattle.std.proofs.lemmas.List.Elements.{filter-append}
-use Rattle.pm_laws.proofs.Common.{Agree, BelowLaws, Border, Both, BothFrom, Event, Fixed, IsBeyond, IsClosed, IsObject, IsSound, KnowsModes, MasterRec, Mode, NodeId, Now, Object, Off, Same, SameEntry, SameMasterNotes, State, asks_beyond, effect, is_about_beyond, is_awake, is_hidden, is_within, mode_of_master, modes_in, news, notes_after, notes_beyond, opening, outputs, place_of, point}
+use Rattle.pm_laws.proofs.Common.{Agree, BelowLaws, Border, Both, BothFrom, Event, Fixed, IsBeyond, IsClosed, IsObject, IsSound, KnowsModes, MasterRec, Mode, NodeId, Now, Object, Off, Same, SameEntry, SameMasterNotes, State, asks_beyond, effect, is_about_beyond, is_awake, is_hidden, is_within, mode_of_master, modes_in, news, notes_after, notes_beyond, opening, outputs, configured_place, point}
 use Rattle.pm_notify.specs.declared.notes.Note.{Note}
 use Rattle.pm_notify.specs.declared.notes.Note.TheVariants.{Ack}
 use Rattle.pm_notify.specs.declared.notes.Waiting.{Waiting}
@@ -69,7 +69,7 @@ module _ (object : Object) (border : Border) where
       ∙ (ap (λ calls. calls ++ callbacks_beyond object border b) first
       ∙ (ap (λ calls. callbacks_beyond object border c ++ calls) second ∙ sym (filter-append test c d)))
 
-  module _ (k : ℕ) (master : NodeId) (place : place_of object master ≡ Some k) where
+  module _ (k : ℕ) (master : NodeId) (place : configured_place object master ≡ Some k) where
     -- ---- one callback to the master at place k
 
     note_test : (node : NodeId) (now : ℕ) (note : Note) → test (callback_by master node now note) ≡ (border.master k && border.node node.0)
@@ -165,7 +165,7 @@ module _ (object : Object) (formed : IsObject object) (border : Border) (a b : N
   abbrev mode_second : ℕ → Mode
   mode_second k = mode_of_master second.fixed second.now.core k
 
-  at_alike : (k : ℕ) (master : NodeId) (is : Bool) → place_of object master ≡ Some k → border.master k ≡ is
+  at_alike : (k : ℕ) (master : NodeId) (is : Bool) → configured_place object master ≡ Some k → border.master k ≡ is
       → callbacks_beyond object border (called_back a k master (was k) (mode_first k) (notes_for k xs) first)
       ≡ callbacks_beyond object border (called_back b k master (were k) (mode_second k) (notes_for k ys) second)
   at_alike k master true place is =

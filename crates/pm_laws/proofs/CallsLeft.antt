@@ -24,7 +24,7 @@ use Rattle.pm_topology.specs.WellFormed.{ObeysMasterRules}
 use Rattle.pm_topology.specs.declared.topology.MasterDef.{MasterDef}
 use Rattle.pm_topology.specs.declared.topology.Topology.{Topology}
 use Rattle.pm_laws.specs.Beside.{Beside, none, both, left, rest}
-use Rattle.pm_laws.specs.ReachBorder.{place_of}
+use Rattle.pm_laws.specs.ReachBorder.{configured_place}
 
 -- ---- lists
 
@@ -142,7 +142,7 @@ module _ (t : Topology) (rules : ObeysMasterRules t) (proc : NodeId) (target : i
           absurd (alone own.element other.element one
           (rules.apart own.place other.place own.element other.element own.here other.here apart (shared own.element other.element parts.1 second.1)))
 
-  pub target_owner : (object : Object) (m : NodeId) → m.0 ≡ 1 → owner object t proc ≡ place_of object m
+  pub target_owner : (object : Object) (m : NodeId) → m.0 ≡ 1 → owner object t proc ≡ configured_place object m
   target_owner object m is =
       same_place (λ (r : MasterRec). has_processor t r.node proc) (λ (r : MasterRec). r.node == m.0)
       (λ r. has_one r.node (r.node == 1) refl ∙ ap (λ (n : ℕ). r.node == n) (sym is)) object.masters

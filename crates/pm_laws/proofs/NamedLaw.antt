@@ -3,7 +3,7 @@ use Rattle.std.proofs.Common.{◌≡◌, ℕ, ◌&&◌, ◌==◌, true, [], slic
 use Rattle.std.specs.Prelude.{option_and_then}
 use Rattle.std.specs.List.{list_any}
 use Rattle.std.proofs.lemmas.Bool.{eqb-true}
-use Rattle.pm_laws.proofs.Common.{Border, IsWellFormed, KindLaws, MasterRec, NodeId, Object, Topology, first_place, kind_of, named_master, node_beyond, none_within, owner_at, unit_beyond}
+use Rattle.pm_laws.proofs.Common.{Border, IsWellFormed, KindLaws, MasterRec, NodeId, Object, Topology, option_or, kind_of, named_master, node_beyond, none_within, owner_at, unit_beyond}
 use Rattle.pm_base.proofs.Booleans.{both}
 use Rattle.pm_base.proofs.Searches.{position-first}
 use Rattle.pm_base.proofs.Tests.{present_at}
@@ -57,7 +57,7 @@ module _ (kinds : KindLaws) (object : Object) (t : Topology) (well : IsWellForme
         let there = owner_there node k own in
         ap (none_within border) (sym there.2) ∙ (ap (unit_beyond object t border) (sym there.1) ∙ parts.0)
 
-    named_by : (first second : Option ℕ) → none_within border first ≡ true → none_within border second ≡ true → none_within border (first_place first second) ≡ true
+    named_by : (first second : Option ℕ) → none_within border first ≡ true → none_within border second ≡ true → none_within border (option_or first second) ≡ true
     named_by None second is other = other
     named_by (Some m) second is other = is
 

@@ -3,13 +3,12 @@ use Rattle.std.proofs.Common.{◌≡◌, Bool, true, false, cond, List, [], ◌�
 use Rattle.std.specs.Prelude.{option_to_list}
 use Rattle.std.specs.List.{AllByRecursion as Each}
 use Rattle.pm_base.proofs.Elements.{AllByRecursion-append}
-use Rattle.pm_object.specs.Attached.{have_same_masters, usable, usable_content}
+use Rattle.pm_object.specs.Attached.{IsFormed, have_same_masters, usable, usable_content}
 use Rattle.pm_object.specs.Grammar.{IsObject}
 use Rattle.pm_object.specs.declared.attached.Attached.{Attached}
 use Rattle.pm_object.specs.declared.attached.Content.{Content}
 use Rattle.pm_object.specs.declared.attached.Content.TheVariants as content
 use Rattle.pm_object.specs.declared.object.Object.{Object}
-use Rattle.pm_block.specs.Pieces.{IsFormed}
 use Rattle.pm_state.specs.State.{usable_among}
 
 by_test : (object : Object) (same : Bool) → IsObject object → Each IsObject (option_to_list (cond same (Some object) None))

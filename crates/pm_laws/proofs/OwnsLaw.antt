@@ -4,9 +4,9 @@ use Rattle.std.specs.Option.{option_map_or}
 use Rattle.pm_laws.proofs.Common.{MasterRec, NodeId, Object, Topology}
 use Rattle.pm_base.proofs.Searches.{position-first}
 use Rattle.pm_perms.specs.Owner.{has_processor, owner}
-use Rattle.pm_reach.specs.Leads.{owns}
+use Rattle.pm_reach.specs.Leads.{has_processor_at}
 
-pub owner_owns : (object : Object) (others : List Object) (t : Topology) (node : NodeId) (k : ℕ) → owner object t node ≡ Some k → owns (object ∷ others) t k node ≡ true
+pub owner_owns : (object : Object) (others : List Object) (t : Topology) (node : NodeId) (k : ℕ) → owner object t node ≡ Some k → has_processor_at (object ∷ others) t k node ≡ true
 owner_owns object others t node k is =
     let has : MasterRec → Bool = λ m. has_processor t m.node node in
     let first = position-first has object.masters k is in

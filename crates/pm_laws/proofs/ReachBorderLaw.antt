@@ -6,7 +6,7 @@ use Rattle.std.specs.List.{All, AllByRecursion as Each, enumerate_from}
 use Rattle.std.proofs.lemmas.List.Elements.{All-from_recursion}
 use Rattle.std.proofs.lemmas.Option.{slice_get_within}
 use Rattle.pm_base.specs.declared.names.LineId.{LineId}
-use Rattle.pm_laws.proofs.Common.{AreObjects, Border, IsBeyond, IsClosed, IsClosedOver, IsObject, IsPairClosed, IsUserKnown, IsWellFormed, Kind, MasterRec, Node, NodeId, Object, Pair, Topology, border_of, border_over, brings_in, entry_beyond, kind_of, master_beyond, named_master, node_beyond, none_within, number_beyond, owner_at, place_of, reset_beyond, unit_beyond, unit_border}
+use Rattle.pm_laws.proofs.Common.{AreObjects, Border, IsBeyond, IsClosed, IsClosedOver, IsObject, IsPairClosed, IsUserKnown, IsWellFormed, Kind, MasterRec, Node, NodeId, Object, Pair, Topology, border_of, border_over, brings_in, entry_beyond, kind_of, master_beyond, named_master, node_beyond, none_within, number_beyond, owner_at, configured_place, reset_beyond, unit_beyond, unit_border}
 use Rattle.pm_base.specs.declared.names.Unit.TheVariants.{Line}
 use Rattle.std.proofs.lemmas.Bool.{eqb-true}
 use Rattle.pm_base.proofs.Booleans.{both, either, first_passes, later_passes, pair_of}
@@ -27,7 +27,7 @@ use Rattle.pm_grants.specs.Several.{HaveSamePlaces, all_grants, some_permits}
 use Rattle.pm_reach.specs.declared.members.MemberKind.{MemberKind}
 use Rattle.pm_reach.specs.declared.members.MemberKind.TheVariants as members
 use Rattle.pm_reach.specs.Border.{Reaches}
-use Rattle.pm_reach.specs.Leads.{forces_above, forces_at, forces_proc, node_at, owns, targets}
+use Rattle.pm_reach.specs.Leads.{forces_above, forces_at, forces_proc, has_processor_at, node_at, targets}
 use Rattle.pm_state.specs.Pairs.{pairs_of}
 use Rattle.pm_state.specs.State.{Fixed, objects_of, usable_among}
 use Rattle.pm_state.proofs.ObjectsLaw.{of_run, place_same}
@@ -173,7 +173,7 @@ module _ (laws : ReachLaws) (object : Object) (others : List Object) (t : Topolo
   owner_is : (p k : ℕ) (proc : ProcDef) → slice_get t.procs p ≡ Some proc → owner_at object t p ≡ Some k → owner object t proc.node ≡ Some k
   owner_is p k proc is own = sym (ap (λ o. option_and_then (λ (proc : ProcDef). owner object t proc.node) o) is) ∙ own
 
-  owned : (p k : ℕ) (proc : ProcDef) → slice_get t.procs p ≡ Some proc → owner_at object t p ≡ Some k → owns objects t k proc.node ≡ true
+  owned : (p k : ℕ) (proc : ProcDef) → slice_get t.procs p ≡ Some proc → owner_at object t p ≡ Some k → has_processor_at objects t k proc.node ≡ true
   owned p k proc is own = owner_owns object others t proc.node k (owner_is p k proc is own)
 
   forces : (m k p : ℕ) (proc : ProcDef) (kind : Kind) → slice_get t.procs p ≡ Some proc
@@ -408,7 +408,7 @@ module _ (laws : ReachLaws) (object : Object) (others : List Object) (t : Topolo
 
 -- ---- the reach of a master with a number
 
-pub place_starts : (object : Object) (others : List Object) (m : NodeId) (got : Option ℕ) → place_of object m ≡ got → Starts (object ∷ others) got
+pub place_starts : (object : Object) (others : List Object) (m : NodeId) (got : Option ℕ) → configured_place object m ≡ got → Starts (object ∷ others) got
 place_starts object others m None is = tt
 place_starts object others m (Some k) is =
     let test : MasterRec → Bool = λ r. r.node == m.0 in
@@ -418,7 +418,7 @@ place_starts object others m (Some k) is =
 pub reach_closed_over : ReachLaws → (object : Object) (others : List Object) (t : Topology) (m : NodeId) → Each IsObject (object ∷ others) → HaveSamePlaces (object ∷ others) → IsWellFormed t
     → IsClosedOver object others t (border_over object others t m)
 reach_closed_over laws object others t m formed same well =
-    edge_closed laws object others t formed same well (place_of object m) (place_starts object others m (place_of object m) refl)
+    edge_closed laws object others t formed same well (configured_place object m) (place_starts object others m (configured_place object m) refl)
 
 -- a property at each place of a list holds of each element
 each_from : {X : Type 0} (P : X → Type 0) (xs : List X) → ((k : ℕ) (x : X) → slice_get xs k ≡ Some x → P x) → Each P xs

@@ -3,7 +3,7 @@ use Rattle.std.proofs.Common.{◌≡◌, ℕ, ◌<◌, ◌&&◌, Bool, true, fal
 use Rattle.std.specs.Option.{option_map}
 use Rattle.std.proofs.lemmas.Bool.{lt-ltb}
 use Rattle.pm_base.specs.declared.names.LineId.{LineId}
-use Rattle.pm_laws.proofs.Common.{Border, IsAllBeyond, IsBorderOf, IsBorderOver, Node, NodeId, Object, State, Topology, border_of, brings_in, entry_beyond, is_within, master_beyond, master_place, place_of, reset_beyond}
+use Rattle.pm_laws.proofs.Common.{Border, IsAllBeyond, IsBorderOf, IsBorderOver, Node, NodeId, Object, State, Topology, border_of, brings_in, entry_beyond, is_within, master_beyond, master_place, configured_place, reset_beyond}
 use Rattle.pm_base.specs.declared.names.Unit.TheVariants.{Line}
 use Rattle.pm_topology.specs.declared.topology.LineDef.{LineDef}
 use Rattle.pm_topology.specs.declared.topology.PowerDef.{PowerDef}
@@ -67,7 +67,7 @@ module _ (laws : ReachLaws) (object : Object) (others : List Object) (t : Topolo
     some = λ e. let found = (laws.tests.some objects (master_beyond objects t (Some from))).0 e in (found.0, found.2);
   }
 
-pub reach_exact : ReachLaws → (fixed : Fixed) (m : NodeId) (from : ℕ) → place_of fixed.object m ≡ Some from → IsBorderOf fixed from (border_of fixed m)
+pub reach_exact : ReachLaws → (fixed : Fixed) (m : NodeId) (from : ℕ) → configured_place fixed.object m ≡ Some from → IsBorderOf fixed from (border_of fixed m)
 reach_exact laws fixed m from is =
     let others : List Object = usable_among fixed.object fixed.attached in
     let P : Option ℕ → Type 0 = λ place. IsBorderOf fixed from (edge fixed.object others fixed.topology place) in
@@ -82,7 +82,7 @@ unset : (os : List Object) (t : Topology) (got : Option LineId) → reset_beyond
 unset os t None = refl
 unset os t (Some line) = refl
 
-pub all_beyond : (fixed : Fixed) (m : NodeId) → place_of fixed.object m ≡ None → IsAllBeyond fixed.object (border_of fixed m)
+pub all_beyond : (fixed : Fixed) (m : NodeId) → configured_place fixed.object m ≡ None → IsAllBeyond fixed.object (border_of fixed m)
 all_beyond fixed m is =
     let t : Topology = fixed.topology in
     let P : Option ℕ → Type 0 = λ place. IsAllBeyond fixed.object (edge fixed.object (usable_among fixed.object fixed.attached) t place) in

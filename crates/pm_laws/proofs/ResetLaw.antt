@@ -10,7 +10,7 @@ use Rattle.pm_ipi.specs.declared.calls.Call.TheVariants.{ResetAssert}
 use Rattle.pm_perms.specs.Owner.{owner}
 use Rattle.pm_grants.specs.Grants.{permits_reset}
 use Rattle.pm_state.specs.State.{grants_in, usable_among}
-use Rattle.pm_reach.specs.Leads.{owns, targets}
+use Rattle.pm_reach.specs.Leads.{has_processor_at, targets}
 use Rattle.pm_topology.specs.declared.places.Kind.TheVariants.{Proc}
 use Rattle.pm_topology.specs.declared.topology.LineDef.{LineDef}
 use Rattle.pm_topology.specs.declared.topology.ProcDef.{ProcDef}
@@ -53,7 +53,7 @@ owner_of_node object t node p is =
 
 targets_owner : (object : Object) (others : List Object) (t : Topology) (line : LineDef) (node : NodeId) (k : ℕ) → line.target ≡ Some node → owner object t node ≡ Some k → targets (object ∷ others) t line k ≡ true
 targets_owner object others t line node k target is =
-    ap (λ o. option_map_or (owns (object ∷ others) t k) o false) target
+    ap (λ o. option_map_or (has_processor_at (object ∷ others) t k) o false) target
     ∙ owner_owns object others t node k is
 
 module _ (border : Border) (book : State) (closed : HasClosed border book) (m l : ℕ) (line : LineDef)

@@ -2,7 +2,7 @@
 use Rattle.std.proofs.Common.{◌≡◌, ℕ, ◌==◌, Bool, true, false, not, if◌then◌else◌, option_and_then, position, List, Option, None, Some, refl, ap, sym, ◌∙◌, subst}
 use Rattle.std.specs.List.{list_any}
 use Rattle.std.proofs.lemmas.Bool.{eqb-true}
-use Rattle.pm_laws.proofs.Common.{Agree, AreObjects, BelowLaws, Border, Event, Fixed, Ipi, IsClosed, IsKind, IsObject, IsSound, IsWellFormed, Kind, MasterRec, NodeId, Object, Pass, Power, Slave, State, Topology, Unknown, Wfi, border_of, effect, is_hidden, is_within, kind_of, master_place, none_within, owner_by, place_of}
+use Rattle.pm_laws.proofs.Common.{Agree, AreObjects, BelowLaws, Border, Event, Fixed, Ipi, IsClosed, IsKind, IsObject, IsSound, IsWellFormed, Kind, MasterRec, NodeId, Object, Pass, Power, Slave, State, Topology, Unknown, Wfi, border_of, effect, is_hidden, is_within, kind_of, master_place, none_within, owner_by, configured_place}
 use Rattle.pm_base.specs.declared.events.Event.TheVariants.{Post, Smc}
 use Rattle.pm_base.specs.declared.events.Message.{Message}
 use Rattle.pm_base.proofs.Booleans.{both}
@@ -65,7 +65,7 @@ within_itself border (Some k) there within beyond = not_beyond (border.master k)
 module _ (reach : ReachLaws) (laws : BelowLaws) (m : NodeId) where
   -- the owner of a processor is that of its number, and what is no processor is nobody's
   owned_hidden : (a : State) (proc : NodeId) (kind : Kind) → IsKind a.fixed.topology proc kind
-      → owner a.fixed.object a.fixed.topology proc ≡ place_of a.fixed.object m → is_within (border_in a m) (owner_by kind a) ≡ true
+      → owner a.fixed.object a.fixed.topology proc ≡ configured_place a.fixed.object m → is_within (border_in a m) (owner_by kind a) ≡ true
   owned_hidden a proc (Proc p) there is =
       ap (is_within (border_in a m))
       (ap (λ (found : Option ProcDef). option_and_then (λ (def : ProcDef). owner a.fixed.object a.fixed.topology def.node) found) there.1
@@ -146,8 +146,8 @@ told_quiet reach laws m event a b object chip named sound_a sound_b agree =
     (λ message.
     let first = (left_apart reach laws m a b object chip sound_a sound_b agree (Ipi m message) refl).1 in
     let second = (rest_apart reach laws m a b object chip sound_a sound_b agree).1 in
-    let own_beyond : none_within (border_in a m) (place_of a.fixed.object m) ≡ true → ⊥ =
-    within_itself (border_in a m) (place_of a.fixed.object m) (is_there (λ (r : MasterRec). r.node == m.0) a.fixed.object.masters named) (reach.own m a)
+    let own_beyond : none_within (border_in a m) (configured_place a.fixed.object m) ≡ true → ⊥ =
+    within_itself (border_in a m) (configured_place a.fixed.object m) (is_there (λ (r : MasterRec). r.node == m.0) a.fixed.object.masters named) (reach.own m a)
     in
     record {
       moves = first.moves ∙ sym second.moves;

@@ -13,7 +13,8 @@ use Rattle.pm_topology.specs.declared.topology.ProcDef.{ProcDef}
 use Rattle.pm_topology.specs.declared.topology.SlaveDef.{SlaveDef}
 use Rattle.pm_topology.specs.Units.{needs_in}
 use Rattle.pm_power.specs.declared.child.Child.{Child}
-use Rattle.pm_power.specs.Forest.{child_needs, is_parent, is_up, power_needs, ups_from}
+use Rattle.pm_base.specs.Places.{is_place}
+use Rattle.pm_power.specs.Forest.{child_needs, is_up, power_needs, ups_from}
 use Rattle.pm_procs.specs.declared.procs.Proc.{Proc as Processor}
 use Rattle.pm_resets.specs.Resets.{line_value}
 use Rattle.pm_rows.specs.declared.wanted.Wanted.{Wanted}
@@ -146,7 +147,7 @@ module _ (fixed : Fixed) (border : Border) (closed : IsClosed fixed border) (a b
   -- a power node below w
   below_alike : (w k : ℕ) (p : PowerDef) (x y : Bool) (parent : Option ℕ) → border.power w ≡ true
       → slice_get fixed.topology.powers k ≡ Some p → p.parent ≡ parent → SameUp k x y
-      → (is_parent w parent && x) ≡ (is_parent w parent && y)
+      → (is_place w parent && x) ≡ (is_place w parent && y)
   below_alike w k p x y None beyond there is same_up = refl
   below_alike w k p x y (Some u) beyond there is same_up = at (u == w) refl
     where
@@ -165,7 +166,7 @@ module _ (fixed : Fixed) (border : Border) (closed : IsClosed fixed border) (a b
   powers_alike w k (p ∷ later) (x ∷ xs) (y ∷ ys) beyond stands each =
       ap (λ t. t || power_needs later xs w)
       (below_alike w k p x y p.parent beyond (stands_first fixed.topology.powers k p later stands) refl each.0)
-      ∙ ap (λ t. (is_parent w p.parent && y) || t)
+      ∙ ap (λ t. (is_place w p.parent && y) || t)
       (powers_alike w (k + 1) later xs ys beyond (stands_later fixed.topology.powers k p later stands) each.1)
 
   ups_alike : (k : ℕ) (powers : List PowerDef) → StandsFrom fixed.topology.powers k powers

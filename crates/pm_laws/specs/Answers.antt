@@ -12,7 +12,7 @@ use Rattle.pm_core.specs.declared.replies.Answer.TheVariants.{Drop}
 use Rattle.pm_topology.specs.declared.topology.Topology.{Topology}
 use Rattle.pm_topology.specs.Places.{line_place}
 use Rattle.pm_laws.specs.Border.{Border, line_beyond, none_within}
-use Rattle.pm_laws.specs.ReachBorder.{place_of}
+use Rattle.pm_laws.specs.ReachBorder.{configured_place}
 
 -- the message was dropped
 abbrev pub is_dropped : Answer → Bool
@@ -36,11 +36,11 @@ names_beyond t border call = all_beyond t border (row_of call).names
 
 -- the sender of a message is beyond, or is no configured master; no other event has one
 abbrev pub sender_beyond : Object → Border → Event → Bool
-sender_beyond object border (Ipi master message) = none_within border (place_of object master)
+sender_beyond object border (Ipi master message) = none_within border (configured_place object master)
 sender_beyond object border _ = true
 
 -- the sender is beyond or isn't configured, and each node that its call names is beyond
 abbrev pub message_beyond : Object → Topology → Border → Event → Bool
 message_beyond object t border (Ipi master message) =
-    none_within border (place_of object master) && names_beyond t border (call_of message)
+    none_within border (configured_place object master) && names_beyond t border (call_of message)
 message_beyond object t border _ = true

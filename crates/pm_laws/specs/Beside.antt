@@ -10,13 +10,13 @@ use Rattle.pm_perms.specs.Owner.{owner}
 use Rattle.pm_state.specs.State.{State}
 use Rattle.pm_run.specs.Run.{Core, Setup, fixed_of}
 use Rattle.pm_laws.specs.Agree.{Agree}
-use Rattle.pm_laws.specs.ReachBorder.{border_of, place_of}
+use Rattle.pm_laws.specs.ReachBorder.{border_of, configured_place}
 use Rattle.pm_laws.specs.Told.{SameTold, TellsNothing}
 
 -- the event is a message of this master, or a processor of it waits for an interrupt
 abbrev pub IsOwn : Object → Topology → NodeId → Event → Type 0
 IsOwn object t m (Ipi master message) = master.0 ≡ m.0
-IsOwn object t m (Wfi proc) = owner object t proc ≡ place_of object m
+IsOwn object t m (Wfi proc) = owner object t proc ≡ configured_place object m
 IsOwn object t m _ = ⊥
 
 -- each event of the two lists is in both; or it is the master's own and in the first alone; or it is a Pass and in

@@ -23,8 +23,8 @@ use Rattle.pm_state.specs.State.{Fixed, objects_of, usable_among}
 use Rattle.pm_laws.specs.Border.{Border, IsBeyond, node_beyond}
 
 -- the place of a configured master
-abbrev pub place_of : Object → NodeId → Option ℕ
-place_of object m = master_place object.masters m
+abbrev pub configured_place : Object → NodeId → Option ℕ
+configured_place object m = master_place object.masters m
 
 -- a path leads from the master at a place to another; none does if the master isn't configured
 abbrev pub reaches : List Object → Topology → Option ℕ → ℕ → Bool
@@ -72,7 +72,7 @@ number_beyond object others t from number =
 -- processor is beyond if its owner is
 abbrev pub border_over : Object → List Object → Topology → NodeId → Border
 border_over object others t m =
-    unit_border (object ∷ others) t (place_of object m) (number_beyond object others t (place_of object m))
+    unit_border (object ∷ others) t (configured_place object m) (number_beyond object others t (configured_place object m))
 
 -- the border of the reach of a master, by the permissions of a run's objects
 abbrev pub border_of : Fixed → NodeId → Border

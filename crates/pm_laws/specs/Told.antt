@@ -21,7 +21,7 @@ use Rattle.pm_laws.specs.Answers.{is_dropped, message_beyond, names_beyond, send
 use Rattle.pm_laws.specs.Border.{Border, none_within}
 use Rattle.pm_laws.specs.Callbacks.{callbacks_beyond}
 use Rattle.pm_laws.specs.Pulse.{pulse_beyond}
-use Rattle.pm_laws.specs.ReachBorder.{place_of}
+use Rattle.pm_laws.specs.ReachBorder.{configured_place}
 use Rattle.pm_laws.specs.SeenTalk.{asks_beyond, ends_beyond}
 use Rattle.pm_laws.specs.Values.{moves_beyond, starts_beyond}
 
@@ -81,7 +81,7 @@ pub record TellsNothing (object : Object) (t : Topology) (border : Border) (x : 
 
 -- the event is a message of another master than this one, and that master is beyond or isn't configured
 abbrev pub is_others : Object → Border → NodeId → Event → Bool
-is_others object border m (Ipi master message) = not (master.0 == m.0) && none_within border (place_of object master)
+is_others object border m (Ipi master message) = not (master.0 == m.0) && none_within border (configured_place object master)
 is_others object border m _ = false
 
 -- such a message whose call names nothing within

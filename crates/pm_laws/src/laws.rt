@@ -33,7 +33,7 @@ ghost use Rattle.pm_laws.specs.Border.{AreObjects, Border, HasSome, IsBeyond, Is
 ghost use Rattle.pm_laws.specs.Both.{Both};
 ghost use Rattle.pm_laws.specs.Hidden.{is_hidden, is_slave_within, is_within, owner_by};
 ghost use Rattle.pm_laws.specs.Pulse.{pulse_beyond};
-ghost use Rattle.pm_laws.specs.ReachBorder.{IsAllBeyond, IsBorderOf, border_of, border_over, place_of};
+ghost use Rattle.pm_laws.specs.ReachBorder.{IsAllBeyond, IsBorderOf, border_of, border_over, configured_place};
 ghost use Rattle.pm_laws.specs.Seen.{seen, seen_part, IsUnseen, AreAlike, AreHidden};
 ghost use Rattle.pm_laws.specs.SeenTalk.{seen_talk, talk_part, IsTalkUnseen, asks_beyond, ends_beyond};
 ghost use Rattle.pm_laws.specs.Values.{is_beyond, starts_beyond};
@@ -253,9 +253,9 @@ pub fn reach_is_closed()
     ensures closed_over { (object : Object) (others : List Object) (t : Topology) (m : NodeId)
         → Each IsObject (object ∷ others) → HaveSamePlaces (object ∷ others) → IsWellFormed t
         → IsClosedOver object others t (border_over object others t m) }
-    ensures exact { (fixed : Fixed) (m : NodeId) (from : ℕ) → place_of fixed.object m ≡ Some from
+    ensures exact { (fixed : Fixed) (m : NodeId) (from : ℕ) → configured_place fixed.object m ≡ Some from
         → IsBorderOf fixed from (border_of fixed m) }
-    ensures unconfigured { (fixed : Fixed) (m : NodeId) → place_of fixed.object m ≡ None
+    ensures unconfigured { (fixed : Fixed) (m : NodeId) → configured_place fixed.object m ≡ None
         → IsAllBeyond fixed.object (border_of fixed m) }
     ensures own { (m : NodeId) (book : State) → is_within (border_of book.fixed m) (master_place m book) ≡ true }
 {

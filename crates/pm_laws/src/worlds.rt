@@ -8,7 +8,7 @@ ghost use Rattle.pm_object.specs.Grammar.{IsObject};
 ghost use Rattle.pm_object.specs.declared.attached.Attached.{Attached};
 ghost use Rattle.pm_object.specs.declared.object.Object.{Object};
 ghost use Rattle.pm_topology.specs.declared.topology.Topology.{Topology};
-ghost use Rattle.pm_block.specs.Pieces.{IsFormed};
+ghost use Rattle.pm_object.specs.Attached.{IsFormed};
 ghost use Rattle.pm_state.specs.Load.{load_of};
 ghost use Rattle.pm_state.specs.State.{State};
 ghost use Rattle.pm_core.specs.Outbox.{HasRoomFor, Holds, KeepsRoom};

@@ -16,7 +16,7 @@ use Rattle.pm_notify.specs.declared.notes.Note.TheVariants.{Ack, Change, ZeroUse
 use Rattle.pm_notify.specs.declared.notes.Waiting.{Waiting}
 use Rattle.pm_notify.specs.declared.node_notes.NodeNotes.{NodeNotes}
 use Rattle.pm_notify.specs.declared.node_notes.Slots.{Slots}
-use Rattle.pm_notify.specs.MasterNotes.{MasterNotes, first_at, notes_at, waiting_about, waiting_in, without_note}
+use Rattle.pm_notify.specs.MasterNotes.{MasterNotes, first_waiting_at, notes_at, waiting_about, waiting_in, without_note}
 use Rattle.pm_notify.specs.NodeNotes.{emptied, no_notes, notes_in}
 use Rattle.pm_notify.specs.Notify.{IsInOrder, first_for, notes_for, taken, taken_out, waiting_for}
 use Rattle.pm_notify.proofs.MasterNotesLemmas.{master_notes_changed, units_kept}
@@ -150,7 +150,7 @@ first_of_about : (here later : List Waiting) (w : Waiting) → slice_get here 0 
 first_of_about [] later w is = cc
 first_of_about (v ∷ vs) later w is = is
 
-pub first_found : (notes : MasterNotes) (place : ℕ) (w : Waiting) → first_at notes place ≡ Some w → slice_get (waiting_in (drop place notes)) 0 ≡ Some w
+pub first_found : (notes : MasterNotes) (place : ℕ) (w : Waiting) → first_waiting_at notes place ≡ Some w → slice_get (waiting_in (drop place notes)) 0 ≡ Some w
 first_found [] place w is = cc
 first_found (e ∷ notes) zero w is = first_of_about (waiting_about e.0 e.1.slots) (waiting_in notes) w is
 first_found (e ∷ notes) (suc place) w is = first_found notes place w is
@@ -159,7 +159,7 @@ first_of_later : (here later : List Waiting) → slice_get here 0 ≡ None → s
 first_of_later [] later is = refl
 first_of_later (v ∷ vs) later is = cc
 
-pub none_found : (notes : MasterNotes) (place : ℕ) → first_at notes place ≡ None → slice_get (waiting_in (drop place notes)) 0 ≡ slice_get (waiting_in (drop (suc place) notes)) 0
+pub none_found : (notes : MasterNotes) (place : ℕ) → first_waiting_at notes place ≡ None → slice_get (waiting_in (drop place notes)) 0 ≡ slice_get (waiting_in (drop (suc place) notes)) 0
 none_found [] zero is = refl
 none_found [] (suc place) is = refl
 none_found (e ∷ notes) zero is = first_of_later (waiting_about e.0 e.1.slots) (waiting_in notes) is

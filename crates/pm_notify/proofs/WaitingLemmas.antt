@@ -1,6 +1,6 @@
 -- What waits in a master's notes is exactly what stands in its slots, in the order in which it is told.
 use Rattle.std.proofs.Common.{◌≡◌, ℕ, ◌⊎◌, ⊎_elim, Bool, true, false, cond, List, [], ◌∷◌, ◌++◌, map, refl, ap, sym, ◌∙◌, arith, subst}
-use Rattle.std.specs.Prelude.{Option, Some, None, unwrap_or, Contains, ◌↔◌}
+use Rattle.std.specs.Prelude.{Option, Some, None, unwrap_or, Contains, ◌↔◌, option_to_list}
 use Rattle.std.specs.List.{list_all}
 use Rattle.std.specs.Option.{option_map}
 use Rattle.std.proofs.lemmas.List.Elements.{Contains-append_cases, Contains-append_left, Contains-append_right, Contains-push, Contains-push_cases}
@@ -16,7 +16,7 @@ use Rattle.pm_notify.specs.declared.notes.Waiting.{Waiting}
 use Rattle.pm_notify.specs.declared.node_notes.NodeNotes.{NodeNotes}
 use Rattle.pm_notify.specs.declared.node_notes.Slots.{Slots}
 use Rattle.pm_notify.specs.MasterNotes.{MasterNotes, notes_at, waiting_about, waiting_in}
-use Rattle.pm_notify.specs.NodeNotes.{in_slot, no_notes, note_like}
+use Rattle.pm_notify.specs.NodeNotes.{no_notes, note_like}
 use Rattle.pm_notify.proofs.NodeLemmas.{none_waits}
 use Rattle.pm_notify.proofs.TakeLemmas.{about, before_differs}
 
@@ -26,7 +26,7 @@ nothing_in x (k, within, at) = omega arith
 -- ---- what waits stands in its slot
 
 -- the one note of a slot
-in_slot_alone : (n : NodeId) (found : Option Note) (w : Waiting) → Contains (map (about n) (in_slot found)) w → (note : Note) × (found ≡ Some note) × (about n note ≡ w)
+in_slot_alone : (n : NodeId) (found : Option Note) (w : Waiting) → Contains (map (about n) (option_to_list found)) w → (note : Note) × (found ≡ Some note) × (about n note ≡ w)
 in_slot_alone n None w has = absurd (nothing_in w has)
 in_slot_alone n (Some note) w has = ⊎_elim
     (λ none. absurd (nothing_in w none))
@@ -71,7 +71,7 @@ pub record Stands (n : NodeId) (slots : Slots) (w : Waiting) : Type 0 where
 
 stands_by : (n : NodeId) (slots : Slots) (like : Note) (w : Waiting)
     → ((note : Note) → note_like like slots ≡ Some note → note_like note slots ≡ Some note)
-    → Contains (map (about n) (in_slot (note_like like slots))) w → Stands n slots w
+    → Contains (map (about n) (option_to_list (note_like like slots))) w → Stands n slots w
 stands_by n slots like w stands has =
     let found = in_slot_alone n (note_like like slots) w has in
     record {
@@ -85,11 +85,11 @@ map_both n (x ∷ xs) ys = ap (λ ws. about n x ∷ ws) (map_both n xs ys)
 
 -- the notes that wait about a node, slot by slot
 about_node : (n : NodeId) (slots : Slots) → waiting_about (Node n) slots
-    ≡ map (about n) (in_slot (note_like (Ack 0) slots))
-    ++ (map (about n) (in_slot (note_like Change slots)) ++ map (about n) (in_slot (note_like ZeroUsers slots)))
+    ≡ map (about n) (option_to_list (note_like (Ack 0) slots))
+    ++ (map (about n) (option_to_list (note_like Change slots)) ++ map (about n) (option_to_list (note_like ZeroUsers slots)))
 about_node n slots =
-    map_both n (in_slot (note_like (Ack 0) slots)) (in_slot (note_like Change slots) ++ in_slot (note_like ZeroUsers slots))
-    ∙ ap (λ ws. map (about n) (in_slot (note_like (Ack 0) slots)) ++ ws) (map_both n (in_slot (note_like Change slots)) (in_slot (note_like ZeroUsers slots)))
+    map_both n (option_to_list (note_like (Ack 0) slots)) (option_to_list (note_like Change slots) ++ option_to_list (note_like ZeroUsers slots))
+    ∙ ap (λ ws. map (about n) (option_to_list (note_like (Ack 0) slots)) ++ ws) (map_both n (option_to_list (note_like Change slots)) (option_to_list (note_like ZeroUsers slots)))
 
 stands_about : (n : NodeId) (slots : Slots) (w : Waiting) → Contains (waiting_about (Node n) slots) w → Stands n slots w
 stands_about n slots w has = ⊎_elim
@@ -97,8 +97,8 @@ stands_about n slots w has = ⊎_elim
     (λ later. ⊎_elim
     (λ change. stands_by n slots Change w (change_stands slots) change)
     (λ users. stands_by n slots ZeroUsers w (users_stand slots) users)
-    (Contains-append_cases (map (about n) (in_slot (note_like Change slots))) (map (about n) (in_slot (note_like ZeroUsers slots))) w later))
-    (Contains-append_cases (map (about n) (in_slot (note_like (Ack 0) slots))) _ w
+    (Contains-append_cases (map (about n) (option_to_list (note_like Change slots))) (map (about n) (option_to_list (note_like ZeroUsers slots))) w later))
+    (Contains-append_cases (map (about n) (option_to_list (note_like (Ack 0) slots))) _ w
     (let P : List Waiting → Type 0 = λ ws. Contains ws w in subst P (about_node n slots) has))
 
 stands_unit : (u : Unit) (slots : Slots) (w : Waiting) → Contains (waiting_about u slots) w → (u ≡ Node w.node) × (note_like w.note slots ≡ Some w.note)
@@ -131,9 +131,9 @@ waits_in_slot (e ∷ notes) w rising has =
 
 -- ---- what stands in a slot waits
 
-slot_waits : (n : NodeId) (found : Option Note) (note : Note) → found ≡ Some note → Contains (map (about n) (in_slot found)) (about n note)
+slot_waits : (n : NodeId) (found : Option Note) (note : Note) → found ≡ Some note → Contains (map (about n) (option_to_list found)) (about n note)
 slot_waits n found note is =
-    let P : Option Note → Type 0 = λ o. Contains (map (about n) (in_slot o)) (about n note) in
+    let P : Option Note → Type 0 = λ o. Contains (map (about n) (option_to_list o)) (about n note) in
     subst P (sym is) (Contains-push [] (about n note))
 
 stands_among : (n : NodeId) (slots : Slots) (note : Note) → note_like note slots ≡ Some note → Contains (waiting_about (Node n) slots) (about n note)
@@ -142,13 +142,13 @@ stands_among n slots note is =
     subst P (sym (about_node n slots)) (at note is)
   where
     at : (note : Note) → note_like note slots ≡ Some note
-        → Contains (map (about n) (in_slot (note_like (Ack 0) slots))
-        ++ (map (about n) (in_slot (note_like Change slots)) ++ map (about n) (in_slot (note_like ZeroUsers slots)))) (about n note)
-    at (Ack status) is = Contains-append_left (map (about n) (in_slot (note_like (Ack 0) slots))) _ _ (slot_waits n (note_like (Ack 0) slots) (Ack status) is)
-    at Change is = Contains-append_right (map (about n) (in_slot (note_like (Ack 0) slots))) _ _
-        (Contains-append_left (map (about n) (in_slot (note_like Change slots))) _ _ (slot_waits n (note_like Change slots) Change is))
-    at ZeroUsers is = Contains-append_right (map (about n) (in_slot (note_like (Ack 0) slots))) _ _
-        (Contains-append_right (map (about n) (in_slot (note_like Change slots))) _ _ (slot_waits n (note_like ZeroUsers slots) ZeroUsers is))
+        → Contains (map (about n) (option_to_list (note_like (Ack 0) slots))
+        ++ (map (about n) (option_to_list (note_like Change slots)) ++ map (about n) (option_to_list (note_like ZeroUsers slots)))) (about n note)
+    at (Ack status) is = Contains-append_left (map (about n) (option_to_list (note_like (Ack 0) slots))) _ _ (slot_waits n (note_like (Ack 0) slots) (Ack status) is)
+    at Change is = Contains-append_right (map (about n) (option_to_list (note_like (Ack 0) slots))) _ _
+        (Contains-append_left (map (about n) (option_to_list (note_like Change slots))) _ _ (slot_waits n (note_like Change slots) Change is))
+    at ZeroUsers is = Contains-append_right (map (about n) (option_to_list (note_like (Ack 0) slots))) _ _
+        (Contains-append_right (map (about n) (option_to_list (note_like Change slots))) _ _ (slot_waits n (note_like ZeroUsers slots) ZeroUsers is))
 
 -- it waits about the first unit, or about a later one
 module _ (units : UnitLaws) where

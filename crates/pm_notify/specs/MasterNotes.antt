@@ -61,8 +61,8 @@ waiting_in [] = []
 waiting_in (e ∷ notes) = waiting_about e.0 e.1.slots ++ waiting_in notes
 
 -- the first note that waits about the unit at a place
-abbrev pub first_at : MasterNotes → ℕ → Option Waiting
-first_at notes place = option_and_then (λ e. slice_get (waiting_about e.0 e.1.slots) 0) (slice_get notes place)
+abbrev pub first_waiting_at : MasterNotes → ℕ → Option Waiting
+first_waiting_at notes place = option_and_then (λ e. slice_get (waiting_about e.0 e.1.slots) 0) (slice_get notes place)
 
 -- ---- a master that is off
 

@@ -1,5 +1,5 @@
 -- What one master has asked for and what waits for it about one node.
-use Rattle.std.specs.Prelude.{Bool, true, false, ◌++◌, ◌∷◌, [], if◌then◌else◌, List, Option, Some, None}
+use Rattle.std.specs.Prelude.{Bool, true, false, ◌++◌, if◌then◌else◌, List, Option, Some, None, option_to_list}
 use Rattle.std.specs.Option.{option_map}
 use Rattle.pm_notify.specs.declared.notes.NodeEvent.{NodeEvent}
 use Rattle.pm_notify.specs.declared.notes.NodeEvent.TheVariants as event
@@ -49,15 +49,10 @@ emptied (Ack status) slots = record slots { ack = None }
 emptied Change slots = record slots { change = false }
 emptied ZeroUsers slots = record slots { zero_users = false }
 
--- what waits in one slot: a note or none
-abbrev pub in_slot : Option Note → List Note
-in_slot None = []
-in_slot (Some note) = note ∷ []
-
 -- the notes that wait, by their kinds: an acknowledgement, a change, no users any more
 abbrev pub notes_in : Slots → List Note
 notes_in slots =
-    in_slot (note_like (Ack 0) slots) ++ (in_slot (note_like Change slots) ++ in_slot (note_like ZeroUsers slots))
+    option_to_list (note_like (Ack 0) slots) ++ (option_to_list (note_like Change slots) ++ option_to_list (note_like ZeroUsers slots))
 
 -- ---- both
 

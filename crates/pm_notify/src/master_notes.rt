@@ -167,8 +167,8 @@ fn first_about(unit: Unit, slots: Slots) -> Option<Waiting>
 }
 
 /// The first note that waits about the unit at a place.
-fn first_at(notes: &UnitMap<NodeNotes>, place: usize) -> Option<Waiting>
-    ensures { result ≡ spec.first_at notes.now place }
+fn first_waiting_at(notes: &UnitMap<NodeNotes>, place: usize) -> Option<Waiting>
+    ensures { result ≡ spec.first_waiting_at notes.now place }
 {
     match notes.entry(place) {
         Some((unit, notes)) => first_about(unit, notes.slots),
@@ -187,7 +187,7 @@ fn first_in(notes: &UnitMap<NodeNotes>, may_wait: bool) -> Option<Waiting>
         return None;
     }
     for place in 0..units {
-        if let Some(waiting) = first_at(notes, place) {
+        if let Some(waiting) = first_waiting_at(notes, place) {
             return Some(waiting);
         }
     }

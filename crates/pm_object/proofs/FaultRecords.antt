@@ -14,7 +14,8 @@ use Rattle.pm_object.specs.declared.object.Pair.{Pair}
 use Rattle.pm_object.specs.declared.object.ObjectCause.TheVariants.{NoMasters, BadMaster, MaskRepeated, RepeatedNode}
 use Rattle.pm_object.specs.declared.object.ObjectFault.{ObjectFault}
 use Rattle.pm_object.specs.FirstFault.{Fault, WordFault, Free, WordsEnd, After, RecordsFault, CountedFault, Any, Differ, KeyedFault, NodeFits, NodeBreaks, MaskFits, MaskBreaks, MasterFault, CountBreaks, MastersFault, GroupFault}
-use Rattle.pm_object.specs.Grammar.{is_master_node, splits_lockstep, master_words, preset_words, IsMaster, AreApart}
+use Rattle.pm_base.specs.Masters.{is_master_number, splits_lockstep}
+use Rattle.pm_object.specs.Grammar.{master_words, preset_words, IsMaster, AreApart}
 use Rattle.pm_object.specs.Reading.{Cursor, ◌>>=◌, fault, word, own_key, counted_records, records, slave, pair, preset, group, master_node, master_mask, master, masters}
 use Rattle.pm_object.proofs.Steps.{bind_ok, passed, ok_is, word_takes}
 use Rattle.pm_object.proofs.ReadRecords.{preset_reader}
@@ -111,7 +112,7 @@ group_telling = record { steady = group_steady; fails = group_fails }
 
 -- ---- masters
 
-fitting : (earlier : List MasterRec) (w : ℕ) → NodeFits earlier w → (not (is_master_node w) || list_any (λ m. splits_lockstep m.node w) earlier) ≡ false
+fitting : (earlier : List MasterRec) (w : ℕ) → NodeFits earlier w → (not (is_master_number w) || list_any (λ m. splits_lockstep m.node w) earlier) ≡ false
 fitting earlier w fits =
     none_of _ _ (ap not fits.0) (list_any_none (λ (m : MasterRec). splits_lockstep m.node w) earlier fits.1)
 
@@ -124,7 +125,7 @@ mask_fitting earlier w fits =
 node_fails : (earlier : List MasterRec) (c : Cursor) (f : ObjectFault) → master_node earlier c ≡ Err f → Told (WordFault (NodeBreaks earlier)) c.place c.left f
 unfolding master_node
 node_fails earlier c f e =
-    let bad = λ (v : ℕ). not (is_master_node v) || list_any (λ m. splits_lockstep m.node v) earlier in
+    let bad = λ (v : ℕ). not (is_master_number v) || list_any (λ m. splits_lockstep m.node v) earlier in
     let taken = λ (v : ℕ). list_any (λ m. eqb m.node v) earlier in
     elim (bind_err (word c) (λ v. cond (bad v.0) (fault BadMaster c.place) (cond (taken v.0) (fault RepeatedNode c.place) (Ok v))) f e) [
       | inl ends ↦ word_fails (NodeBreaks earlier) c f ends
@@ -140,15 +141,15 @@ node_fails earlier c f e =
           ]
     ]
   where
-    does_fit : (earlier : List MasterRec) (w : ℕ) → (not (is_master_node w) || list_any (λ m. splits_lockstep m.node w) earlier) ≡ false → NodeFits earlier w
+    does_fit : (earlier : List MasterRec) (w : ℕ) → (not (is_master_number w) || list_any (λ m. splits_lockstep m.node w) earlier) ≡ false → NodeFits earlier w
     does_fit earlier w good =
-        let parts = neither (not (is_master_node w)) (list_any (λ m. splits_lockstep m.node w) earlier) good in
-        (not-false (is_master_node w) parts.0, each_fails (λ (m : MasterRec). splits_lockstep m.node w) earlier parts.1)
+        let parts = neither (not (is_master_number w)) (list_any (λ m. splits_lockstep m.node w) earlier) good in
+        (not-false (is_master_number w) parts.0, each_fails (λ (m : MasterRec). splits_lockstep m.node w) earlier parts.1)
 
 node_steady : (earlier : List MasterRec) (c : Cursor) (w : ℕ) (d : Cursor) → master_node earlier c ≡ Ok (w, d) → Steady c d
 unfolding master_node
 node_steady earlier c w d e =
-    let bad = λ (v : ℕ). not (is_master_node v) || list_any (λ m. splits_lockstep m.node v) earlier in
+    let bad = λ (v : ℕ). not (is_master_number v) || list_any (λ m. splits_lockstep m.node v) earlier in
     let taken = λ (v : ℕ). list_any (λ m. eqb m.node v) earlier in
     let a = bind_ok (word c) (λ v. cond (bad v.0) (fault BadMaster c.place) (cond (taken v.0) (fault RepeatedNode c.place) (Ok v))) (w, d) e in
     let g = passed (bad a.0.0) BadMaster c.place (cond (taken a.0.0) (fault RepeatedNode c.place) (Ok a.0)) (w, d) a.2 in

@@ -8,7 +8,8 @@ use Rattle.pm_base.proofs.Booleans.{neither}
 use Rattle.pm_base.proofs.Elements.{each_fails, no_pairs}
 use Rattle.pm_object.specs.declared.object.MasterRec.{MasterRec}
 use Rattle.pm_object.specs.declared.object.ObjectCause.TheVariants.{NoMasters, BadMaster, MaskRepeated, RepeatedNode}
-use Rattle.pm_object.specs.Grammar.{is_master_node, splits_lockstep, master_words, counted, IsMaster, AreApart, AreMasters}
+use Rattle.pm_base.specs.Masters.{is_master_number, splits_lockstep}
+use Rattle.pm_object.specs.Grammar.{master_words, counted, IsMaster, AreApart, AreMasters}
 use Rattle.pm_object.specs.Reading.{Cursor, fault, word, master_node, master_mask, master, masters, records}
 use Rattle.pm_object.proofs.Steps.{bind_ok, passed, ok_is, Again, before, word_takes, word_again, tested_takes}
 use Rattle.pm_object.proofs.ReadLists.{IsReader, records_take, records_again}
@@ -16,14 +17,14 @@ use Rattle.pm_object.proofs.ReadLists.{IsReader, records_take, records_again}
 -- ---- the node
 
 pub record HasNode (earlier : List MasterRec) (node : ℕ) : Type 0 where
-  pub known : is_master_node node ≡ true
+  pub known : is_master_number node ≡ true
   pub modes : All (λ e. splits_lockstep e.node node ≡ false) earlier
   pub own : All (λ e. e.node ≢ node) earlier
 
 pub node_takes : (earlier : List MasterRec) (c : Cursor) (w : ℕ) (d : Cursor) → master_node earlier c ≡ Ok (w, d) → (c.left ≡ w ∷ d.left) × HasNode earlier w
 unfolding master_node
 node_takes earlier c w d e =
-    let bad = λ (v : ℕ). not (is_master_node v) || list_any (λ m. splits_lockstep m.node v) earlier in
+    let bad = λ (v : ℕ). not (is_master_number v) || list_any (λ m. splits_lockstep m.node v) earlier in
     let taken = λ (v : ℕ). list_any (λ m. eqb m.node v) earlier in
     let a = bind_ok (word c) (λ v. cond (bad v.0) (fault BadMaster c.place) (cond (taken v.0) (fault RepeatedNode c.place) (Ok v))) (w, d) e in
     let g = passed (bad a.0.0) BadMaster c.place (cond (taken a.0.0) (fault RepeatedNode c.place) (Ok a.0)) (w, d) a.2 in
@@ -31,10 +32,10 @@ node_takes earlier c w d e =
     let is = ok_is a.0 (w, d) h.1 in
     let good : bad w ≡ false = subst (λ (p : ℕ × Cursor). bad p.0 ≡ false) is g.0 in
     let free : taken w ≡ false = subst (λ (p : ℕ × Cursor). taken p.0 ≡ false) is h.0 in
-    let parts = neither (not (is_master_node w)) (list_any (λ m. splits_lockstep m.node w) earlier) good in (
+    let parts = neither (not (is_master_number w)) (list_any (λ m. splits_lockstep m.node w) earlier) good in (
       word_takes c w d (a.1 ∙ h.1),
       record {
-        known = not-false (is_master_node w) parts.0;
+        known = not-false (is_master_number w) parts.0;
         modes = each_fails (λ (m : MasterRec). splits_lockstep m.node w) earlier parts.1;
         own = All-weaker (λ (e : MasterRec). eqb e.node w ≡ false) (λ e. e.node ≢ w) (λ e differs. eqb-false e.node w differs) earlier (each_fails (λ (m : MasterRec). eqb m.node w) earlier free);
       },

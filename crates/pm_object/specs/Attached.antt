@@ -1,5 +1,6 @@
 -- The objects that the first lines of a script attach, and which of them can be put in force.
-use Rattle.std.specs.Prelude.{Bool, true, false, ◌==◌, ◌&&◌, if◌then◌else◌, List, [], ◌∷◌, Option, Some, None}
+use Rattle.std.specs.Prelude.{◌≡◌, Bool, true, false, ◌==◌, ◌&&◌, if◌then◌else◌, List, [], ◌∷◌, Option, Some, None}
+use Rattle.pm_object.specs.Grammar.{IsObject}
 use Rattle.pm_object.specs.declared.object.MasterRec.{MasterRec}
 use Rattle.pm_object.specs.declared.object.Object.{Object}
 use Rattle.pm_object.specs.declared.attached.Attached.{Attached}
@@ -24,3 +25,7 @@ usable_content loaded (content.Bad fault) = None
 
 abbrev pub usable : Object → Attached → Option Object
 usable loaded attached = usable_content loaded attached.content
+
+-- where what is attached is an object, that is well formed
+abbrev pub IsFormed : Attached → Type 0
+IsFormed attached = (object : Object) → attached.content ≡ content.Object object → IsObject object

@@ -11,7 +11,8 @@ use Rattle.pm_object.specs.declared.object.ObjectCause.{ObjectCause}
 use Rattle.pm_object.specs.declared.object.ObjectCause.TheVariants.{Length, TooLong, Truncated, HeaderShort, BadType, UnknownSection, RepeatedSection, NoMasters, BadMaster, MaskRepeated, RepeatedNode, Trailing}
 use Rattle.pm_object.specs.declared.object.ObjectFault.{ObjectFault}
 use Rattle.pm_object.specs.Bodies.{body_of, no_body}
-use Rattle.pm_object.specs.Grammar.{identifier, master_words, slave_words, preset_words, group_words, pair_words, section_words, is_master_node, splits_lockstep, most_words, IsMaster, AreApart, HasOwnNodes, IsBody, little_endian}
+use Rattle.pm_base.specs.Masters.{is_master_number, splits_lockstep}
+use Rattle.pm_object.specs.Grammar.{identifier, master_words, slave_words, preset_words, group_words, pair_words, section_words, most_words, IsMaster, AreApart, HasOwnNodes, IsBody, little_endian}
 
 -- ---- words
 
@@ -79,7 +80,7 @@ KeyedFault key more earlier words left cause =
 
 -- the node is a master's, and goes with the earlier ones
 abbrev pub NodeFits : List MasterRec → ℕ → Type 0
-NodeFits earlier w = IsTrue (is_master_node w) × All (λ e. splits_lockstep e.node w ≡ false) earlier
+NodeFits earlier w = IsTrue (is_master_number w) × All (λ e. splits_lockstep e.node w ≡ false) earlier
 
 abbrev pub NodeBreaks : List MasterRec → ℕ → ObjectCause → Type 0
 NodeBreaks earlier w cause =

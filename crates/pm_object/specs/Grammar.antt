@@ -1,7 +1,8 @@
 -- Which bytes a configuration object is written as: its one spelling (UG1137, configuration object).
-use Rattle.std.specs.Prelude.{◌≡◌, ◌≢◌, ℕ, ◌+◌, ◌<◌, ◌≤◌, ◌^◌, Bool, false, ◌==◌, ◌&&◌, ◌||◌, IsTrue, List, [], ◌∷◌, ◌++◌, length, slice_get, Some, bit_and, count_ones, ⊤}
+use Rattle.std.specs.Prelude.{◌≡◌, ◌≢◌, ℕ, ◌+◌, ◌<◌, ◌≤◌, ◌^◌, Bool, false, ◌==◌, IsTrue, List, [], ◌∷◌, ◌++◌, length, slice_get, Some, bit_and, count_ones, ⊤}
 use Rattle.std.specs.List.{flat_map, All, AllPairs, Contains}
 use Rattle.std.specs.Int.{w32, to_le_bytes}
+use Rattle.pm_base.specs.Masters.{is_master_number, splits_lockstep}
 use Rattle.pm_object.specs.declared.object.MasterRec.{MasterRec}
 use Rattle.pm_object.specs.declared.object.SlaveRec.{SlaveRec}
 use Rattle.pm_object.specs.declared.object.PreRec.{PreRec}
@@ -80,17 +81,9 @@ most_words = 4096
 abbrev pub is_same : Section → Section → Bool
 is_same s t = identifier s == identifier t
 
--- the application processors are 1, the real-time processors 6 as a pair in lockstep, or 7 and 8 each alone (UG1200, nodes)
-abbrev pub is_master_node : ℕ → Bool
-is_master_node node = (node == 1) || (node == 6) || (node == 7) || (node == 8)
-
--- whether one is the pair in lockstep, and the other one of its two processors alone
-abbrev pub splits_lockstep : ℕ → ℕ → Bool
-splits_lockstep a b = ((a == 6) && ((b == 7) || (b == 8))) || ((b == 6) && ((a == 7) || (a == 8)))
-
 -- a master has one bit in all masks
 pub record IsMaster (master : MasterRec) : Type 0 where
-  pub node : IsTrue (is_master_node master.node)
+  pub node : IsTrue (is_master_number master.node)
   pub one_bit : count_ones master.mask ≡ 1
 
 -- two masters differ in node and bit, and don't use the real-time processors both as a pair and alone

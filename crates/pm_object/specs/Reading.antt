@@ -18,7 +18,8 @@ use Rattle.pm_object.specs.declared.object.DecodeError.TheVariants.{Bad, Memory}
 use Rattle.pm_object.specs.declared.header.Header.{Header}
 use Rattle.pm_object.specs.Answers.{GivesAs}
 use Rattle.pm_object.specs.Bodies.{Body, with_body, unset}
-use Rattle.pm_object.specs.Grammar.{identifier, is_same, is_master_node, splits_lockstep, most_words, Reads}
+use Rattle.pm_base.specs.Masters.{is_master_number, splits_lockstep}
+use Rattle.pm_object.specs.Grammar.{identifier, is_same, most_words, Reads}
 
 -- ---- steps
 
@@ -82,7 +83,7 @@ header c = do
 
 -- whether a node is no master's, or is one of the pair in lockstep together with it
 abbrev pub is_bad_node : List MasterRec → ℕ → Bool
-is_bad_node earlier node = not (is_master_node node) || list_any (λ m. splits_lockstep m.node node) earlier
+is_bad_node earlier node = not (is_master_number node) || list_any (λ m. splits_lockstep m.node node) earlier
 
 -- whether a mask hasn't exactly one bit, or has an earlier master's
 abbrev pub is_bad_mask : List MasterRec → ℕ → Bool

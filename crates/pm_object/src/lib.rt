@@ -23,7 +23,7 @@ pub use attached::{Attached, Content};
 pub use decoding::decode;
 pub use encoding::{bytes_of, encode};
 pub use laws::{object_sections, one_reading, section_identifiers};
-pub use masters::{is_bad_mask, is_bad_node, is_master_node};
+pub use masters::{is_bad_mask, is_bad_node};
 pub use object::{
     DecodeError, MOST_WORDS, MasterRec, Object, ObjectCause, ObjectFault, Pair, PreGroup, PreRec,
     Section, SlaveRec,

@@ -2,35 +2,20 @@
 
 ghost use Rattle.std.specs.Prelude.{◌≡◌, ◌==◌, [], bit_and, not};
 ghost use Rattle.std.specs.List.{list_any};
-ghost use Rattle.pm_object.specs.Grammar.{is_master_node, splits_lockstep};
+ghost use Rattle.pm_base.specs.Masters.{is_master_number, splits_lockstep};
 ghost use Rattle.pm_object.specs.Reading.{GivesAt, is_bad_mask, is_bad_node, master, master_mask, master_node, masters, records};
 
 use crate::object::{DecodeError, MasterRec, ObjectCause};
 use crate::records::{Keyed, Record, has_key, read_records};
 use crate::words::{Words, fault};
-use pm_base::List;
+use pm_base::{List, NodeId, is_master_number, splits_lockstep};
 use std::alloc::Global;
-
-/// Whether the node is a master's: the application processors, the real-time processors as a pair
-/// in lockstep, or one of them alone (UG1200, nodes).
-pub fn is_master_node(node: u32) -> bool
-    ensures { result ≡ is_master_node node }
-{
-    matches!(node, 1 | 6 | 7 | 8)
-}
-
-/// Whether one node is the pair of real-time processors, and the other one of the two alone.
-fn is_split(a: u32, b: u32) -> bool
-    ensures { result ≡ splits_lockstep a b }
-{
-    a == 6 && (b == 7 || b == 8) || b == 6 && (a == 7 || a == 8)
-}
 
 /// Whether an earlier master is the lock-step pair and this one a half of it, or the other way round.
 fn has_split(earlier: &[MasterRec], node: u32) -> bool
     ensures { result ≡ list_any (λ m. splits_lockstep m.node node) earlier.now }
 {
-    earlier.iter().any(|master| is_split(master.node, node))
+    earlier.iter().any(|master| splits_lockstep(NodeId(master.node), NodeId(node)))
 }
 
 /// Whether an earlier master has a bit of this mask.
@@ -44,7 +29,7 @@ fn has_bit(earlier: &[MasterRec], mask: u32) -> bool
 pub fn is_bad_node(earlier: &[MasterRec], node: u32) -> bool
     ensures { result ≡ is_bad_node earlier.now node }
 {
-    !is_master_node(node) || has_split(earlier, node)
+    !is_master_number(NodeId(node)) || has_split(earlier, node)
 }
 
 /// Whether a mask hasn't exactly one bit, or has an earlier master's.

@@ -14,7 +14,8 @@ use Rattle.pm_object.specs.declared.object.Object.{Object}
 use Rattle.pm_object.specs.declared.object.Section.{Section}
 use Rattle.pm_object.specs.declared.object.Section.TheVariants as sections
 use Rattle.pm_object.specs.Bodies.{Body, body_of, with_body, no_body}
-use Rattle.pm_object.specs.Grammar.{identifier, master_words, slave_words, preset_words, pair_words, group_words, body_words, section_words, splits_lockstep, is_master_node, IsMaster, AreApart, AreMasters, HaveOwnKeys, HasOwnNodes, IsBody}
+use Rattle.pm_base.specs.Masters.{is_master_number, splits_lockstep}
+use Rattle.pm_object.specs.Grammar.{identifier, master_words, slave_words, preset_words, pair_words, group_words, body_words, section_words, IsMaster, AreApart, AreMasters, HaveOwnKeys, HasOwnNodes, IsBody}
 use Rattle.pm_base.proofs.Booleans.{neither, differs}
 use Rattle.pm_base.proofs.Elements.{AllByRecursion-append, each_fails}
 use Rattle.pm_objtext.specs.declared.stage.Stage.{Stage}
@@ -205,10 +206,10 @@ formed_put laws stage after size now o s b f there opened together small words m
 
 pub masters_push : (masters : List MasterRec) (m : MasterRec) → AreMasters masters → list_any (λ e. e.node == m.node) masters ≡ false → is_bad_node masters m.node ≡ false → is_bad_mask masters m.mask ≡ false → AreMasters (masters ++ m ∷ [])
 masters_push masters m are new node mask =
-    let nodes = neither (not (is_master_node m.node)) (list_any (λ e. splits_lockstep e.node m.node) masters) node in
+    let nodes = neither (not (is_master_number m.node)) (list_any (λ e. splits_lockstep e.node m.node) masters) node in
     let masks = neither (not (count_ones m.mask == 1)) (list_any (λ e. not (bit_and e.mask m.mask == 0)) masters) mask in
     let one : eqb (count_ones m.mask) 1 ≡ true = not-false (eqb (count_ones m.mask) 1) masks.0 in
-    let is : IsMaster m = record { node = not-false (is_master_node m.node) nodes.0; one_bit = grind (arith, nat_tests) } in
+    let is : IsMaster m = record { node = not-false (is_master_number m.node) nodes.0; one_bit = grind (arith, nat_tests) } in
     record {
       each = All-push IsMaster masters m are.each is;
       apart = all_pairs_push AreApart masters m are.apart (λ k d within. record {

@@ -10,9 +10,9 @@ use Rattle.std.proofs.Math.Bool.{and-false}
 use Rattle.std.proofs.Math.Seq.{drop-append_seam, take-append_seam}
 use Rattle.pm_io.specs.Lines.{without_return, is_plain, is_readable}
 use Rattle.pm_io.specs.Words.{is_blank, words_from, words, word_texts, text_between}
-use Rattle.pm_io.specs.Numbers.{number_of, numbers_in}
+use Rattle.pm_io.specs.Numbers.{greatest_number, number_of, numbers_in}
 use Rattle.pm_base.proofs.Elements.{AllByRecursion-append}
-use Rattle.pm_objtext.specs.Reading.{greatest_number, number, numbers}
+use Rattle.pm_objtext.specs.Reading.{number, numbers}
 
 -- ---- bytes
 

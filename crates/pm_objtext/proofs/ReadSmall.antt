@@ -6,13 +6,13 @@ use Rattle.pm_object.specs.declared.object.Pair.{Pair}
 use Rattle.pm_object.specs.declared.object.Section.{Section}
 use Rattle.pm_object.specs.Grammar.{pair_words}
 use Rattle.pm_io.specs.Words.{word_texts}
-use Rattle.pm_io.specs.Numbers.{number_of, at_most, numbers_in}
+use Rattle.pm_io.specs.Numbers.{number_of, at_most, numbers_in, greatest_number}
 use Rattle.pm_objtext.specs.declared.names.Keyword.{Keyword}
 use Rattle.pm_objtext.specs.declared.names.Keyword.TheVariants as keywords
 use Rattle.pm_objtext.specs.declared.item.Item.{Item}
 use Rattle.pm_objtext.specs.declared.item.Item.TheVariants.{Empty, Header, Opens, Power, Reset, Shutdown}
 use Rattle.pm_io.specs.Lines.{is_readable}
-use Rattle.pm_objtext.specs.Reading.{greatest_number, number, numbers, keyword_of, section_of, opening, pair_of, record_of, keyword_item, words_item, item_of}
+use Rattle.pm_objtext.specs.Reading.{number, numbers, keyword_of, section_of, opening, pair_of, record_of, keyword_item, words_item, item_of}
 use Rattle.pm_objtext.proofs.ItemTexts.{AreSmall, Fits}
 use Rattle.pm_objtext.proofs.Walks.{found_some, mapped_some}
 

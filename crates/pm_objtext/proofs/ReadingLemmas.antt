@@ -5,8 +5,8 @@ use Rattle.std.proofs.lemmas.List.{drop_all, append-nil}
 use Rattle.std.proofs.lemmas.Option.{slice_get_within}
 use Rattle.std.specs.Option.{option_map}
 use Rattle.pm_base.proofs.ListLemmas.{drop_found}
-use Rattle.pm_io.specs.Numbers.{numbers_in}
-use Rattle.pm_objtext.specs.Reading.{greatest_number, number, numbers}
+use Rattle.pm_io.specs.Numbers.{greatest_number, numbers_in}
+use Rattle.pm_objtext.specs.Reading.{number, numbers}
 
 -- numbers before others
 abbrev pub with_front : List ℕ → Option (List ℕ) → Option (List ℕ)

@@ -15,7 +15,8 @@ use Rattle.pm_object.specs.declared.object.Object.{Object}
 use Rattle.pm_object.specs.declared.object.Section.{Section}
 use Rattle.pm_object.specs.declared.object.Section.TheVariants as sections
 use Rattle.pm_object.specs.Bodies.{body_of, with_body, no_body}
-use Rattle.pm_object.specs.Grammar.{master_words, slave_words, preset_words, pair_words, group_words, section_words, splits_lockstep, is_master_node, IsMaster, AreApart, AreMasters, HaveOwnKeys, HasOwnNodes, IsBody}
+use Rattle.pm_base.specs.Masters.{is_master_number, splits_lockstep}
+use Rattle.pm_object.specs.Grammar.{master_words, slave_words, preset_words, pair_words, group_words, section_words, IsMaster, AreApart, AreMasters, HaveOwnKeys, HasOwnNodes, IsBody}
 use Rattle.pm_objtext.specs.declared.item.Item.{Item}
 use Rattle.pm_objtext.specs.declared.item.Item.TheVariants.{Master, Slave, Group, Prefer, Power, Reset, Shutdown, Config, Gpo}
 use Rattle.pm_objtext.specs.declared.stage.Stage.{Stage}
@@ -45,7 +46,7 @@ keyed_go item words key s put step rest front size own fits =
 
 fine_node : (front : List MasterRec) (m : MasterRec) → All (λ e. AreApart e m) front → IsMaster m → is_bad_node front m.node ≡ false
 fine_node front m apart is =
-    let known : is_master_node m.node ≡ true = is.node in
+    let known : is_master_number m.node ≡ true = is.node in
     let whole : list_any (λ e. splits_lockstep e.node m.node) front ≡ false = list_any_none (λ e. splits_lockstep e.node m.node) front (λ k d within. let one = apart k d within in one.modes) in
     rw (known, whole) refl
 

@@ -4,7 +4,7 @@ use Rattle.std.specs.Option.{option_map}
 use Rattle.std.specs.Str.{bytes_eq}
 use Rattle.pm_io.specs.Lines.{is_readable}
 use Rattle.pm_io.specs.Words.{word_texts}
-use Rattle.pm_io.specs.Numbers.{number_of, numbers_in, at_most}
+use Rattle.pm_io.specs.Numbers.{number_of, numbers_in, at_most, greatest_number}
 use Rattle.pm_object.specs.declared.object.Pair.{Pair}
 use Rattle.pm_object.specs.declared.object.Section.{Section}
 use Rattle.pm_objtext.specs.declared.names.Keyword.{Keyword}
@@ -14,10 +14,6 @@ use Rattle.pm_objtext.specs.declared.item.Item.TheVariants.{Empty, Header, Opens
 use Rattle.pm_objtext.specs.Names.{all_keywords, all_sections, keyword_text, section_text}
 
 -- ---- words and numbers
-
--- the greatest number of a word
-abbrev pub greatest_number : ℕ
-greatest_number = 4294967295
 
 -- a number of 32 bits
 abbrev pub number : List ℕ → Option ℕ

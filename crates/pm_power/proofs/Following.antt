@@ -11,7 +11,8 @@ use Rattle.pm_base.proofs.Counts.{count_by-cons}
 use Rattle.pm_cells.proofs.Counting.{one_if, count_set, count_most, get_other}
 use Rattle.pm_topology.specs.declared.topology.PowerDef.{PowerDef}
 use Rattle.pm_power.specs.declared.child.Child.{Child}
-use Rattle.pm_power.specs.Forest.{is_parent, child_needs, power_needs, ups_from, AreAfterParents}
+use Rattle.pm_base.specs.Places.{is_place}
+use Rattle.pm_power.specs.Forest.{child_needs, power_needs, ups_from, AreAfterParents}
 use Rattle.pm_power.specs.Uses.{is_using_child, child_uses, power_uses, pending, AreCounted, AreWithin, with_need, counted_by, parent_of, chain, room, levels, changes}
 
 -- ---- lists
@@ -156,15 +157,15 @@ climb_goes_on children powers counts ups on w p up before are here within is the
   up_places = length-set ups w up ∙ are.up_places;
   right = λ v below.
       let is = followed on w counts v (child_uses children v + power_uses powers ups v) (omega (arith, are.places)) (are.right v below) in
-      let step = count_set (λ e. is_parent v e.0.parent && e.1) (zip powers ups) w (p, before) (p, up) (zip_get powers ups w p before here there) in
-      let whole : power_uses powers (slice_set ups w up) v ≡ count_by (λ e. is_parent v e.0.parent && e.1) (slice_set (zip powers ups) w (p, up)) =
-      ap (count_by (λ e. is_parent v e.0.parent && e.1)) (zip_set powers ups w p up here)
+      let step = count_set (λ e. is_place v e.0.parent && e.1) (zip powers ups) w (p, before) (p, up) (zip_get powers ups w p before here there) in
+      let whole : power_uses powers (slice_set ups w up) v ≡ count_by (λ e. is_place v e.0.parent && e.1) (slice_set (zip powers ups) w (p, up)) =
+      ap (count_by (λ e. is_place v e.0.parent && e.1)) (zip_set powers ups w p up here)
       in
-      let first : one_if (is_parent v p.parent && before) ≡ pending (not on) p.parent v =
-      ap (λ b. one_if (is_parent v p.parent && b)) turned.1 ∙ need_at (is_parent v p.parent) (not on)
+      let first : one_if (is_place v p.parent && before) ≡ pending (not on) p.parent v =
+      ap (λ b. one_if (is_place v p.parent && b)) turned.1 ∙ need_at (is_place v p.parent) (not on)
       in
-      let second : one_if (is_parent v p.parent && up) ≡ pending on p.parent v =
-      ap (λ b. one_if (is_parent v p.parent && b)) turned.0 ∙ need_at (is_parent v p.parent) on
+      let second : one_if (is_place v p.parent && up) ≡ pending on p.parent v =
+      ap (λ b. one_if (is_place v p.parent && b)) turned.0 ∙ need_at (is_place v p.parent) on
       in
       omega arith;
   up = λ v q at. elim (same_or_not w v _ refl) [
@@ -231,10 +232,10 @@ pub count_has_few : (children : List Child) (powers : List PowerDef) (counts : L
     → AreCounted children powers counts ups on at → AreWithin children powers → w < length powers → slice_index counts w < 2 ^ 32 - 1
 count_has_few children powers counts ups on at w are few within =
     let one = count_most (is_using_child w) children in
-    let two = count_most (λ e. is_parent w e.0.parent && e.1) (zip powers ups) in
+    let two = count_most (λ e. is_place w e.0.parent && e.1) (zip powers ups) in
     let three = zip_len powers ups in
     let is : slice_index counts w + pending on at w ≡ child_uses children w + power_uses powers ups w + pending (not on) at w = are.right w within in
-    omega (arith, most (not on && is_parent w at), few.few)
+    omega (arith, most (not on && is_place w at), few.few)
   where
     most : (b : Bool) → one_if b ≤ 1
     most true = omega arith
@@ -285,10 +286,10 @@ apart_from : (w v : ℕ) → v < w → (v == w) ≡ false
 apart_from w v below = grind (arith, nat_tests)
 
 -- the first node needs none that stands at its place or later
-first_counts_none : (w : ℕ) (p : PowerDef) (u : Bool) → ((v : ℕ) → p.parent ≡ Some v → v < w) → one_if (is_parent w p.parent && u) ≡ 0
+first_counts_none : (w : ℕ) (p : PowerDef) (u : Bool) → ((v : ℕ) → p.parent ≡ Some v → v < w) → one_if (is_place w p.parent && u) ≡ 0
 first_counts_none w p u after = at p.parent refl
   where
-    at : (parent : Option ℕ) → p.parent ≡ parent → one_if (is_parent w parent && u) ≡ 0
+    at : (parent : Option ℕ) → p.parent ≡ parent → one_if (is_place w parent && u) ≡ 0
     at None is = refl
     at (Some v) is = ap (λ b. one_if (b && u)) (apart_from w v (after v is))
 
@@ -303,8 +304,8 @@ tail_is_up children b (p ∷ powers) (u ∷ ups) is =
       after = λ j v q here parent. let below = is.after (suc j) v q here parent in omega arith;
       up = λ j q here.
           let none = first_counts_none (b + suc j) p u (λ v parent. let below = is.after zero v p refl parent in omega arith) in
-          let whole : power_uses (p ∷ powers) (u ∷ ups) (b + suc j) ≡ one_if (is_parent (b + suc j) p.parent && u) + power_uses powers ups (b + suc j) =
-          count_by-cons (λ e. is_parent (b + suc j) e.0.parent && e.1) (p, u) (zip powers ups)
+          let whole : power_uses (p ∷ powers) (u ∷ ups) (b + suc j) ≡ one_if (is_place (b + suc j) p.parent && u) + power_uses powers ups (b + suc j) =
+          count_by-cons (λ e. is_place (b + suc j) e.0.parent && e.1) (p, u) (zip powers ups)
           in
           let rest : power_uses (p ∷ powers) (u ∷ ups) (b + suc j) ≡ power_uses powers ups (b + suc j) = omega arith in
           let next : b + suc j ≡ b + 1 + j = omega arith in
@@ -313,8 +314,8 @@ tail_is_up children b (p ∷ powers) (u ∷ ups) is =
           ∙ ap (λ w. Some (q.held || nat_lt 0 (child_uses children w + power_uses powers ups w))) next;
     }) in
     let none = first_counts_none b p u (λ v parent. let below = is.after zero v p refl parent in omega arith) in
-    let whole : power_uses (p ∷ powers) (u ∷ ups) b ≡ one_if (is_parent b p.parent && u) + power_uses powers ups b =
-    count_by-cons (λ e. is_parent b e.0.parent && e.1) (p, u) (zip powers ups)
+    let whole : power_uses (p ∷ powers) (u ∷ ups) b ≡ one_if (is_place b p.parent && u) + power_uses powers ups b =
+    count_by-cons (λ e. is_place b e.0.parent && e.1) (p, u) (zip powers ups)
     in
     let rest : power_uses (p ∷ powers) (u ∷ ups) b ≡ power_uses powers ups b = omega arith in
     let here : b + 0 ≡ b = omega arith in
@@ -324,7 +325,7 @@ tail_is_up children b (p ∷ powers) (u ∷ ups) is =
     let first : u ≡ (p.held || nat_lt 0 (child_uses children b + power_uses (p ∷ powers) (u ∷ ups) b)) = cc in
     let sum : (child_needs children b || power_needs powers ups b) ≡ nat_lt 0 (child_uses children b + power_uses powers ups b) =
     either_counts (child_needs children b) (power_needs powers ups b) (child_uses children b) (power_uses powers ups b)
-    (any_counts (is_using_child b) children) (any_counts (λ e. is_parent b e.0.parent && e.1) (zip powers ups))
+    (any_counts (is_using_child b) children) (any_counts (λ e. is_place b e.0.parent && e.1) (zip powers ups))
     in
     let head : u ≡ (p.held || (child_needs children b || power_needs powers (ups_from children (b + 1) powers) b)) =
     first ∙ ap (λ n. p.held || nat_lt 0 (child_uses children b + n)) rest ∙ ap (λ c. p.held || c) (sym sum)

@@ -12,7 +12,8 @@ use Rattle.pm_topology.specs.declared.topology.ProcDef.{ProcDef}
 use Rattle.pm_topology.specs.declared.topology.Topology.{Topology}
 use Rattle.pm_topology.specs.WellFormed.{IsWellFormed}
 use Rattle.pm_power.specs.declared.child.Child.{Child}
-use Rattle.pm_power.specs.Forest.{Needs, is_parent, is_up, ups, AreAfterParents}
+use Rattle.pm_base.specs.Places.{is_place}
+use Rattle.pm_power.specs.Forest.{Needs, is_up, ups, AreAfterParents}
 use Rattle.pm_power.specs.Needs.{child, children_of}
 use Rattle.pm_power.specs.Uses.{is_using_child, child_uses, power_uses, AreCounted, AreSettledFrom, IsForest, AreWithin, used_by}
 use Rattle.pm_power.proofs.Following.{counted_is_up, followed, followed_len, followed_other, get_same, zip_get, zip_set, zip_len}
@@ -30,7 +31,7 @@ used_past (Some u) counts k v before past = let below = before u refl in followe
 
 -- the count at each place has one more where that is the parent
 used_right : (parent : Option ℕ) (counts : List ℕ) (v uses : ℕ) → v < length counts → ((u : ℕ) → parent ≡ Some u → u < length counts)
-    → slice_index counts v + one_if (is_parent v parent) ≡ uses → slice_index (used_by parent counts) v ≡ uses
+    → slice_index counts v + one_if (is_place v parent) ≡ uses → slice_index (used_by parent counts) v ≡ uses
 used_right None counts v uses within all is = omega arith
 used_right (Some u) counts v uses within all is =
     let here : slice_index counts v + one_if (true && (u == v)) ≡ uses + one_if (not true && (u == v)) = omega arith in
@@ -47,12 +48,12 @@ goes_up k powers counts ups p now next after is here up set used =
       places = used_len p.parent counts ∙ is.places;
       up_places = length-set ups k true ∙ is.up_places;
       right = λ v within.
-          let step = count_set (λ e. is_parent v e.0.parent && e.1) (zip powers ups) k (p, false) (p, true) (zip_get powers ups k p false here was) in
-          let whole : power_uses powers (slice_set ups k true) v ≡ count_by (λ e. is_parent v e.0.parent && e.1) (slice_set (zip powers ups) k (p, true)) =
-          ap (count_by (λ e. is_parent v e.0.parent && e.1)) (zip_set powers ups k p true here)
+          let step = count_set (λ e. is_place v e.0.parent && e.1) (zip powers ups) k (p, false) (p, true) (zip_get powers ups k p false here was) in
+          let whole : power_uses powers (slice_set ups k true) v ≡ count_by (λ e. is_place v e.0.parent && e.1) (slice_set (zip powers ups) k (p, true)) =
+          ap (count_by (λ e. is_place v e.0.parent && e.1)) (zip_set powers ups k p true here)
           in
-          let none : one_if (is_parent v p.parent && false) ≡ 0 = off (is_parent v p.parent) in
-          let one : one_if (is_parent v p.parent && true) ≡ one_if (is_parent v p.parent) = on (is_parent v p.parent) in
+          let none : one_if (is_place v p.parent && false) ≡ 0 = off (is_place v p.parent) in
+          let one : one_if (is_place v p.parent && true) ≡ one_if (is_place v p.parent) = on (is_place v p.parent) in
           let right : slice_index counts v ≡ power_uses powers ups v = is.right v within in
           used_right p.parent counts v (power_uses powers (slice_set ups k true) v) (omega (arith, is.places))
           (λ u parent. let below = before u parent in let size = slice_get_within powers k p here in omega (arith, is.places))
@@ -112,7 +113,7 @@ stays_down k powers counts ups p is here down = record {
 pub uses_are_few : (k : ℕ) (powers : List PowerDef) (counts : List ℕ) (ups : List Bool) (v : ℕ) → AreSettledFrom k powers counts ups
     → v < length powers → length powers < 2 ^ 31 → slice_index counts v < 2 ^ 32 - 1
 uses_are_few k powers counts ups v is within few =
-    let most = count_most (λ e. is_parent v e.0.parent && e.1) (zip powers ups) in
+    let most = count_most (λ e. is_place v e.0.parent && e.1) (zip powers ups) in
     let size = zip_len powers ups in
     let right : slice_index counts v ≡ power_uses powers ups v = is.right v within in
     omega arith
@@ -136,11 +137,11 @@ none_uses : (powers : List PowerDef) (n w : ℕ) → power_uses powers (replicat
 none_uses [] n w = refl
 none_uses (p ∷ powers) zero w = refl
 none_uses (p ∷ powers) (suc n) w =
-    let whole : power_uses (p ∷ powers) (false ∷ replicate n false) w ≡ one_if (is_parent w p.parent && false) + power_uses powers (replicate n false) w =
-    count_by-cons (λ e. is_parent w e.0.parent && e.1) (p, false) (zip powers (replicate n false))
+    let whole : power_uses (p ∷ powers) (false ∷ replicate n false) w ≡ one_if (is_place w p.parent && false) + power_uses powers (replicate n false) w =
+    count_by-cons (λ e. is_place w e.0.parent && e.1) (p, false) (zip powers (replicate n false))
     in
     let later = none_uses powers n w in
-    let none : one_if (is_parent w p.parent && false) ≡ 0 = off (is_parent w p.parent) in
+    let none : one_if (is_place w p.parent && false) ≡ 0 = off (is_place w p.parent) in
     omega arith
   where
     off : (b : Bool) → one_if (b && false) ≡ 0

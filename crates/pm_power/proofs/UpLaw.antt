@@ -8,13 +8,14 @@ use Rattle.pm_base.proofs.Booleans.{either, first_passes, later_passes, both, pa
 use Rattle.pm_base.proofs.Options.{holds_of}
 use Rattle.pm_base.proofs.Tests.{present_at, present_from}
 use Rattle.pm_power.specs.declared.child.Child.{Child}
-use Rattle.pm_power.specs.Forest.{Needs, is_parent, child_needs, power_needs, ups_from, ups, is_up, IsHeld, ChildNeeds, PowerNeeds, AreAfterParents}
+use Rattle.pm_base.specs.Places.{is_place}
+use Rattle.pm_power.specs.Forest.{Needs, child_needs, power_needs, ups_from, ups, is_up, IsHeld, ChildNeeds, PowerNeeds, AreAfterParents}
 
-parent_is : (w : ℕ) (parent : Option ℕ) → is_parent w parent ≡ true → parent ≡ Some w
+parent_is : (w : ℕ) (parent : Option ℕ) → is_place w parent ≡ true → parent ≡ Some w
 parent_is w None e = cc
 parent_is w (Some v) e = ap Some (eqb-true v w e)
 
-is_parent_of : (w : ℕ) (parent : Option ℕ) → parent ≡ Some w → is_parent w parent ≡ true
+is_parent_of : (w : ℕ) (parent : Option ℕ) → parent ≡ Some w → is_place w parent ≡ true
 is_parent_of w None e = cc
 is_parent_of w (Some v) e = equal v w (let same : Some v ≡ Some w = e in cc)
 
@@ -57,8 +58,8 @@ needing_at : (powers : List PowerDef) (ups : List Bool) (w : ℕ)
 needing_at [] ups w e = cc
 needing_at (p ∷ powers) [] w e = cc
 needing_at (p ∷ powers) (up ∷ ups) w e =
-    elim (either (is_parent w p.parent && up) _ e) [
-      | inl here ↦ (let parts = both (is_parent w p.parent) up here in (zero, p, refl, ap Some parts.1, parent_is w p.parent parts.0))
+    elim (either (is_place w p.parent && up) _ e) [
+      | inl here ↦ (let parts = both (is_place w p.parent) up here in (zero, p, refl, ap Some parts.1, parent_is w p.parent parts.0))
       | inr later ↦ (let found = needing_at powers ups w later in (suc found.0, found.1, found.2, found.3, found.4))
     ]
 
@@ -69,7 +70,7 @@ needing_from [] ups w j p here up is = cc
 needing_from (q ∷ powers) [] w j p here up is = cc
 needing_from (q ∷ powers) (b ∷ ups) w zero p here up is =
     let same : q ≡ p = cc in
-    first_passes _ _ (pair_of (is_parent w q.parent) b (is_parent_of w q.parent (ap (λ (p : PowerDef). p.parent) same ∙ is)) (let top : Some b ≡ Some true = up in cc))
+    first_passes _ _ (pair_of (is_place w q.parent) b (is_parent_of w q.parent (ap (λ (p : PowerDef). p.parent) same ∙ is)) (let top : Some b ≡ Some true = up in cc))
 needing_from (q ∷ powers) (b ∷ ups) w (suc j) p here up is = later_passes _ _ (needing_from powers ups w j p here up is)
 
 -- where the answer is yes, there is a reason for it

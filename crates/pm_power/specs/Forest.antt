@@ -1,6 +1,7 @@
 -- Which power nodes are up: those that are held, and those that something directly below needs.
-use Rattle.std.specs.Prelude.{◌≡◌, ◌↔◌, ◌⊎◌, ℕ, ◌+◌, ◌<◌, ◌==◌, Bool, true, false, IsTrue, ◌&&◌, ◌||◌, Option, Some, None, List, [], ◌∷◌, length, slice_get, unwrap_or}
+use Rattle.std.specs.Prelude.{◌≡◌, ◌↔◌, ◌⊎◌, ℕ, ◌+◌, ◌<◌, ◌==◌, Bool, true, false, IsTrue, ◌&&◌, ◌||◌, Some, List, [], ◌∷◌, length, slice_get, unwrap_or}
 use Rattle.std.specs.List.{list_any, zip}
+use Rattle.pm_base.specs.Places.{is_place}
 use Rattle.pm_topology.specs.declared.topology.PowerDef.{PowerDef}
 use Rattle.pm_topology.specs.declared.topology.Topology.{Topology}
 use Rattle.pm_topology.specs.WellFormed.{IsWellFormed}
@@ -11,18 +12,13 @@ pub record Needs : Type 0 where
   pub powers : List PowerDef
   pub children : List Child
 
--- the parent is the power node at this place
-abbrev pub is_parent : ℕ → Option ℕ → Bool
-is_parent w None = false
-is_parent w (Some parent) = parent == w
-
 -- whether a processor or slave directly below the power node at a place needs it
 abbrev pub child_needs : List Child → ℕ → Bool
 child_needs children w = list_any (λ c. (c.parent == w) && c.needs) children
 
 -- whether one of these power nodes is directly below it, and up
 abbrev pub power_needs : List PowerDef → List Bool → ℕ → Bool
-power_needs powers ups w = list_any (λ e. is_parent w e.0.parent && e.1) (zip powers ups)
+power_needs powers ups w = list_any (λ e. is_place w e.0.parent && e.1) (zip powers ups)
 
 -- whether each of these power nodes is up; the first of them stands at place w, and children stand later
 abbrev pub ups_from : List Child → ℕ → List PowerDef → List Bool

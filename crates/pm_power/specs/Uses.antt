@@ -4,7 +4,8 @@ use Rattle.std.specs.List.{zip}
 use Rattle.pm_topology.specs.declared.topology.PowerDef.{PowerDef}
 use Rattle.pm_power.specs.declared.child.Child.{Child}
 use Rattle.pm_base.specs.declared.names.NodeId.{NodeId}
-use Rattle.pm_power.specs.Forest.{is_parent, AreAfterParents}
+use Rattle.pm_base.specs.Places.{is_place}
+use Rattle.pm_power.specs.Forest.{AreAfterParents}
 use Rattle.pm_power.specs.Needs.{set_child}
 use Rattle.pm_cells.specs.Midway.{midway}
 
@@ -15,11 +16,11 @@ abbrev pub child_uses : List Child → ℕ → ℕ
 child_uses children w = count_by (is_using_child w) children
 
 abbrev pub power_uses : List PowerDef → List Bool → ℕ → ℕ
-power_uses powers ups w = count_by (λ e. is_parent w e.0.parent && e.1) (zip powers ups)
+power_uses powers ups w = count_by (λ e. is_place w e.0.parent && e.1) (zip powers ups)
 
 -- one where the count at place w still has to follow what is above or below it
 abbrev pub pending : Bool → Option ℕ → ℕ → ℕ
-pending b at w = cond (b && is_parent w at) 1 0
+pending b at w = cond (b && is_place w at) 1 0
 
 -- each count is that of the children and power nodes that need its place, but for the one that still has to follow a need
 -- that was set or taken back; and each power node is up where it is held or its count isn't 0

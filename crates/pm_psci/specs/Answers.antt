@@ -1,5 +1,6 @@
 -- What a call is answered (Arm DEN0022, return codes).
 use Rattle.std.specs.Prelude.{ℕ, ℤ, pos, negsuc, ◌==◌, ◌||◌, Option, Some, None, if◌then◌else◌, option_and_then, slice_index}
+use Rattle.std.specs.Option.{option_or}
 use Rattle.pm_ipi.specs.declared.responses.Response.{Response}
 use Rattle.pm_topology.specs.declared.topology.Topology.{Topology}
 use Rattle.pm_psci.specs.declared.calls.Smc.{Smc}
@@ -32,10 +33,6 @@ answer_of SystemOff response = None
 answer_of SystemReset response = None
 answer_of Unknown response = None
 
--- a refusal needs no reply, and what isn't refused has no answer without one
-abbrev pub answer_without : Option ℤ → Option ℤ → Option ℤ
-answer_without (Some code) replied = Some code
-answer_without None replied = replied
-
+-- the answer of a call: its refusal, which needs no reply, and else what the reply says
 abbrev pub answered : Topology → Smc → Option Response → Option ℤ
-answered t smc reply = answer_without (refusal t smc) (option_and_then (answer_of (function_of smc)) reply)
+answered t smc reply = option_or (refusal t smc) (option_and_then (answer_of (function_of smc)) reply)

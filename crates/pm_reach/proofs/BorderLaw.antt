@@ -18,7 +18,7 @@ use Rattle.pm_perms.specs.Several.{masters_of, some_may_use, some_may_suspend, s
 use Rattle.pm_reach.specs.declared.members.MemberKind.TheVariants as members
 use Rattle.pm_reach.specs.declared.members.Why.{Why}
 use Rattle.pm_reach.specs.declared.members.Why.TheVariants.{Suspend, Wake, Force, Reset, Shutdown, Config, Uses, Above}
-use Rattle.pm_reach.specs.Leads.{node_at, owns, targets, forces_above, forces_proc, forces_a_proc, leads_for, lead_reasons}
+use Rattle.pm_reach.specs.Leads.{node_at, targets, forces_above, forces_proc, forces_a_proc, leads_for, lead_reasons, has_processor_at}
 use Rattle.pm_reach.specs.Brings.{brings_as_slave, brings_as_power, brings_slave, brings_slave_for, is_above_proc, is_above_slave}
 use Rattle.pm_reach.specs.Paths.{step}
 use Rattle.pm_reach.specs.Border.{Reaches, IsIn}
@@ -67,12 +67,12 @@ module _ (objects : List Object) (t : Topology) (from a : ℕ) (r : Reaches obje
 
   pub to_forced_proc : (b : ℕ) → b < length (masters_of objects)
       → (k : ℕ) (p : ProcDef) → slice_get t.procs k ≡ Some p
-      → owns objects t b p.node ≡ true
+      → has_processor_at objects t b p.node ≡ true
       → forces_proc objects t (node_at objects a) p.node ≡ true
       → Reaches objects t from b
   to_forced_proc b within k p is own may =
-      let test : ProcDef → Bool = λ p. owns objects t b p.node && forces_proc objects t (node_at objects a) p.node in
-      let some = present_from test t.procs k p is (pair_of (owns objects t b p.node) _ own may) in
+      let test : ProcDef → Bool = λ p. has_processor_at objects t b p.node && forces_proc objects t (node_at objects a) p.node in
+      let some = present_from test t.procs k p is (pair_of (has_processor_at objects t b p.node) _ own may) in
       leads_on b 2 Force within refl (first_passes (forces_a_proc objects t (node_at objects a) b) _ some)
 
   pub to_forced_slave : (b : ℕ) → b < length (masters_of objects)
@@ -119,12 +119,12 @@ module _ (objects : List Object) (t : Topology) (from a : ℕ) (r : Reaches obje
 
   pub to_power_above_proc : (n : NodeId) (w : ℕ) → kind_of t n ≡ kinds.Power w
       → (k : ℕ) (p : ProcDef) → slice_get t.procs k ≡ Some p
-      → owns objects t a p.node ≡ true
+      → has_processor_at objects t a p.node ≡ true
       → is_below t w p.node ≡ true
       → IsIn objects t from members.Power (Node n)
   to_power_above_proc n w kind k p is own below =
-      let test : ProcDef → Bool = λ p. owns objects t a p.node && is_below t w p.node in
-      let some = present_from test t.procs k p is (pair_of (owns objects t a p.node) _ own below) in (
+      let test : ProcDef → Bool = λ p. has_processor_at objects t a p.node && is_below t w p.node in
+      let some = present_from test t.procs k p is (pair_of (has_processor_at objects t a p.node) _ own below) in (
         a,
         Above,
         r,

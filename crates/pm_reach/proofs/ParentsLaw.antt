@@ -20,7 +20,7 @@ use Rattle.pm_topology.specs.WellFormed.{EachEntry, IsWellFormed}
 use Rattle.pm_reach.specs.declared.members.MemberKind.TheVariants as members
 use Rattle.pm_reach.specs.declared.members.Why.{Why}
 use Rattle.pm_reach.specs.declared.members.Why.TheVariants.{Above}
-use Rattle.pm_reach.specs.Leads.{owns}
+use Rattle.pm_reach.specs.Leads.{has_processor_at}
 use Rattle.pm_reach.specs.Brings.{brings_as_power, brings_power, brings_slave, is_above_proc, is_above_slave}
 use Rattle.pm_reach.specs.Border.{Reaches, IsIn}
 use Rattle.pm_reach.proofs.BorderLaw.{to_power_above_proc, to_power_above_slave, yes}
@@ -110,13 +110,13 @@ module _ (laws : KindLaws) (t : Topology) (well : IsWellFormed t) where
 
   higher_proc : (objects : List Object) (a w v : ℕ) → power_parent t.powers w ≡ Some v → is_above_proc objects t a w ≡ true → is_above_proc objects t a v ≡ true
   higher_proc objects a w v is e =
-      let at_w : ProcDef → Bool = λ p. owns objects t a p.node && is_below t w p.node in
-      let at_v : ProcDef → Bool = λ p. owns objects t a p.node && is_below t v p.node in
+      let at_w : ProcDef → Bool = λ p. has_processor_at objects t a p.node && is_below t w p.node in
+      let at_v : ProcDef → Bool = λ p. has_processor_at objects t a p.node && is_below t v p.node in
       let found = present_at at_w t.procs e in
       let p = found.1 in
-      let parts = both (owns objects t a p.node) (is_below t w p.node) found.3 in
+      let parts = both (has_processor_at objects t a p.node) (is_below t w p.node) found.3 in
       let below = below_higher p.node p.parent w v (parent_of_proc found.0 p found.2) (well.proc_parents found.0 p found.2) is parts.1 in
-      present_from at_v t.procs found.0 p found.2 (pair_of (owns objects t a p.node) _ parts.0 below)
+      present_from at_v t.procs found.0 p found.2 (pair_of (has_processor_at objects t a p.node) _ parts.0 below)
 
   higher_slave : (objects : List Object) (a w v : ℕ) → power_parent t.powers w ≡ Some v → is_above_slave objects t a w ≡ true → is_above_slave objects t a v ≡ true
   higher_slave objects a w v is e =
@@ -144,7 +144,7 @@ brought false why e = cc
 module _ (laws : KindLaws) where
   pub to_parent_of_proc : (objects : List Object) (t : Topology) (from a : ℕ) → IsWellFormed t → Reaches objects t from a
       → (k : ℕ) (p : ProcDef) (n : NodeId) → slice_get t.procs k ≡ Some p
-      → owns objects t a p.node ≡ true
+      → has_processor_at objects t a p.node ≡ true
       → kind_of t n ≡ kinds.Power p.parent
       → IsIn objects t from members.Power (Node n)
   to_parent_of_proc objects t from a well r k p n is own kind =

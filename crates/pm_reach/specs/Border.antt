@@ -17,7 +17,7 @@ use Rattle.pm_perms.specs.Several.{masters_of, some_may_configure, some_may_rese
 use Rattle.pm_reach.specs.declared.members.MemberKind.{MemberKind}
 use Rattle.pm_reach.specs.declared.members.MemberKind.TheVariants as members
 use Rattle.pm_reach.specs.declared.members.Why.{Why}
-use Rattle.pm_reach.specs.Leads.{forces_above, forces_proc, node_at, owns, targets}
+use Rattle.pm_reach.specs.Leads.{forces_above, forces_proc, has_processor_at, node_at, targets}
 use Rattle.pm_reach.specs.Brings.{brings}
 use Rattle.pm_reach.specs.Paths.{IsPath}
 
@@ -45,7 +45,7 @@ pub record IsClosedToMasters : Type 0 where
   pub forced : (os : List Object) (t : Topology) (from a : ℕ) → Reaches os t from a
       → (b : ℕ) → b < length (masters_of os)
       → (k : ℕ) (p : ProcDef) → slice_get t.procs k ≡ Some p
-      → IsTrue (owns os t b p.node)
+      → IsTrue (has_processor_at os t b p.node)
       → IsTrue (forces_proc os t (node_at os a) p.node)
       → Reaches os t from b
   pub user : (os : List Object) (t : Topology) (from a : ℕ) → Reaches os t from a
@@ -82,7 +82,7 @@ pub record IsClosedToUnits : Type 0 where
   pub above_proc : (os : List Object) (t : Topology) (from a : ℕ) → Reaches os t from a
       → (n : NodeId) (w : ℕ) → kind_of t n ≡ kinds.Power w
       → (k : ℕ) (p : ProcDef) → slice_get t.procs k ≡ Some p
-      → IsTrue (owns os t a p.node)
+      → IsTrue (has_processor_at os t a p.node)
       → IsTrue (is_below t w p.node)
       → IsIn os t from members.Power (Node n)
   pub above_slave : (os : List Object) (t : Topology) (from : ℕ) (n : NodeId) (w : ℕ) → kind_of t n ≡ kinds.Power w
@@ -97,7 +97,7 @@ pub record IsClosedToUnits : Type 0 where
 pub record IsClosedUpwards : Type 0 where
   pub proc : (os : List Object) (t : Topology) (from a : ℕ) → IsWellFormed t → Reaches os t from a
       → (k : ℕ) (p : ProcDef) (n : NodeId) → slice_get t.procs k ≡ Some p
-      → IsTrue (owns os t a p.node)
+      → IsTrue (has_processor_at os t a p.node)
       → kind_of t n ≡ kinds.Power p.parent
       → IsIn os t from members.Power (Node n)
   pub slave : (os : List Object) (t : Topology) (from : ℕ) → IsWellFormed t

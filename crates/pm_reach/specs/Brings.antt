@@ -17,7 +17,7 @@ use Rattle.pm_reach.specs.declared.members.MemberKind.{MemberKind}
 use Rattle.pm_reach.specs.declared.members.MemberKind.TheVariants as members
 use Rattle.pm_reach.specs.declared.members.Why.{Why}
 use Rattle.pm_reach.specs.declared.members.Why.TheVariants.{Myself, Suspend, Wake, Force, Reset, Shutdown, Config, Uses, Above}
-use Rattle.pm_reach.specs.Leads.{node_at, owns, forces_above}
+use Rattle.pm_reach.specs.Leads.{node_at, forces_above, has_processor_at}
 
 -- the target of a line is this slave
 abbrev pub is_line_of : NodeId → LineDef → Bool
@@ -46,7 +46,7 @@ brings_slave objects t a slave = find (brings_slave_for objects t a slave) (Uses
 
 -- the power node at w is above a processor of the master at place a
 abbrev pub is_above_proc : List Object → Topology → ℕ → ℕ → Bool
-is_above_proc objects t a w = list_any (λ (p : ProcDef). owns objects t a p.node && is_below t w p.node) t.procs
+is_above_proc objects t a w = list_any (λ (p : ProcDef). has_processor_at objects t a p.node && is_below t w p.node) t.procs
 
 -- the power node at w is above a slave that the master at place a brings in
 abbrev pub is_above_slave : List Object → Topology → ℕ → ℕ → Bool

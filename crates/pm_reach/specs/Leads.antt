@@ -25,8 +25,8 @@ node_at objects place =
     record { 0 = option_map_or (λ (m : MasterRec). m.node) (slice_get (masters_of objects) place) 0 }
 
 -- the master at a place has a processor in the chip's table. More than one may have it
-abbrev pub owns : List Object → Topology → ℕ → NodeId → Bool
-owns objects t place proc =
+abbrev pub has_processor_at : List Object → Topology → ℕ → NodeId → Bool
+has_processor_at objects t place proc =
     option_map_or (λ (m : MasterRec). has_processor t m.node proc) (slice_get (masters_of objects) place) false
 
 -- ---- power nodes above
@@ -49,7 +49,7 @@ forces_proc objects t master proc = some_may_force objects t master proc || forc
 -- a master may force a processor of the one at place b, or a power node above one
 abbrev pub forces_a_proc : List Object → Topology → NodeId → ℕ → Bool
 forces_a_proc objects t master b =
-    list_any (λ (p : ProcDef). owns objects t b p.node && forces_proc objects t master p.node) t.procs
+    list_any (λ (p : ProcDef). has_processor_at objects t b p.node && forces_proc objects t master p.node) t.procs
 
 -- a master may force a power node above a slave that another may use
 abbrev pub forces_a_slave : List Object → Topology → NodeId → NodeId → Bool
@@ -58,7 +58,7 @@ forces_a_slave objects t master user =
 
 -- the target of a line is a processor of the master at place b
 abbrev pub targets : List Object → Topology → LineDef → ℕ → Bool
-targets objects t l b = option_map_or (owns objects t b) l.target false
+targets objects t l b = option_map_or (has_processor_at objects t b) l.target false
 
 -- a master may reset a line whose target is a processor of the one at place b
 abbrev pub resets_a_proc : List Object → Topology → NodeId → ℕ → Bool

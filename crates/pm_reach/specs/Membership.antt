@@ -2,9 +2,9 @@
 use Rattle.std.specs.Prelude.{◌≡◌, ℕ, ◌==◌, ◌++◌, find, position, map, length, Option, None, Some, List, [], ◌∷◌}
 use Rattle.std.specs.List.{filter_map, range_with_len}
 use Rattle.std.specs.Option.{option_map, option_or}
+use Rattle.pm_base.specs.Names.{unit_number}
 use Rattle.pm_base.specs.declared.names.NodeId.{NodeId}
 use Rattle.pm_base.specs.declared.names.Unit.{Unit}
-use Rattle.pm_base.specs.declared.names.Unit.TheVariants.{Node, Line}
 use Rattle.pm_object.specs.declared.object.Object.{Object}
 use Rattle.pm_object.specs.declared.object.MasterRec.{MasterRec}
 use Rattle.pm_topology.specs.declared.topology.Topology.{Topology}
@@ -43,11 +43,6 @@ master_members objects routes =
     filter_map (master_member objects routes) (range_with_len 0 (length (masters_of objects)))
 
 -- ---- slaves, power nodes and lines
-
--- the number of a node or a reset line
-abbrev pub unit_number : Unit → ℕ
-unit_number (Node node) = node.0
-unit_number (Line line) = line.0
 
 -- a unit is a member where a master of the reach brings it in: with the path of the first one that does, by the order
 -- of paths, and that one's first reason

@@ -5,7 +5,7 @@ ghost use Rattle.pm_base.specs.declared.names.Unit.TheVariants.{Node};
 ghost use Rattle.pm_topology.specs.declared.places.Kind.TheVariants.{Power};
 ghost use Rattle.pm_reach.specs.Brings as spec;
 
-use crate::leads::{forces_above, node_at, owns};
+use crate::leads::{forces_above, has_processor_at, node_at};
 use crate::members::{MemberKind, Why};
 use pm_base::{NodeId, Unit};
 use pm_object::Object;
@@ -61,7 +61,8 @@ fn is_above_proc(objects: &[Object], t: &Topology, a: usize, w: usize) -> bool
     requires { w < length t.now.powers }
     ensures { result ≡ spec.is_above_proc objects.now t.now a w }
 {
-    t.procs.as_slice().iter().any(|proc| owns(objects, t, a, proc.node) && t.below(w, proc.node))
+    t.procs.as_slice().iter().any(|proc| has_processor_at(objects, t, a, proc.node)
+        && t.below(w, proc.node))
 }
 
 /// Whether the power node at place `w` is above a slave that the master at place `a` brings in.

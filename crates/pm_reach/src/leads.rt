@@ -39,8 +39,8 @@ pub fn node_at(objects: &[Object], place: usize) -> NodeId
 }
 
 /// Whether the master at a place has a processor in the chip's table. More than one may have it.
-pub fn owns(objects: &[Object], t: &Topology, place: usize, proc: NodeId) -> bool
-    ensures { result ≡ spec.owns objects.now t.now place proc }
+pub fn has_processor_at(objects: &[Object], t: &Topology, place: usize, proc: NodeId) -> bool
+    ensures { result ≡ spec.has_processor_at objects.now t.now place proc }
 {
     match masters_of(objects).get(place) {
         Some(master) => has_processor(t, master.node, proc),
@@ -86,7 +86,7 @@ fn forces_proc(objects: &[Object], t: &Topology, master: NodeId, proc: NodeId) -
 fn forces_a_proc(objects: &[Object], t: &Topology, master: NodeId, b: usize) -> bool
     ensures { result ≡ spec.forces_a_proc objects.now t.now master b }
 {
-    t.procs.as_slice().iter().any(|proc| owns(objects, t, b, proc.node)
+    t.procs.as_slice().iter().any(|proc| has_processor_at(objects, t, b, proc.node)
         && forces_proc(objects, t, master, proc.node))
 }
 
@@ -112,7 +112,7 @@ fn targets(objects: &[Object], t: &Topology, line: &LineDef, b: usize) -> bool
     ensures { result ≡ spec.targets objects.now t.now line.now b }
 {
     match line.target {
-        Some(target) => owns(objects, t, b, target),
+        Some(target) => has_processor_at(objects, t, b, target),
         None => false,
     }
 }

@@ -2,6 +2,7 @@
 
 ghost use Rattle.std.specs.Prelude.{◌≡◌, ◌∷◌, [], ◌++◌, ◌==◌, position, IfOk, OnOk, IsTrue};
 ghost use Rattle.std.specs.List.{list_any};
+ghost use Rattle.pm_base.specs.Names.{unit_number};
 ghost use Rattle.pm_perms.specs.Several.{masters_of};
 ghost use Rattle.pm_reach.specs.Membership as spec;
 
@@ -172,7 +173,7 @@ fn push_masters(
 
 /// The number of a node or a reset line.
 fn unit_number(unit: Unit) -> u32
-    ensures { result ≡ spec.unit_number unit }
+    ensures { result ≡ unit_number unit }
 {
     match unit {
         Unit::Node(node) => node.0,

@@ -15,7 +15,7 @@ use Rattle.pm_topology.specs.UnitMap.{value_of}
 use Rattle.pm_topology.specs.Units.{same_unit}
 use Rattle.pm_topology.specs.WellFormed.{IsWellFormed}
 use Rattle.pm_record.specs.declared.kept.KeptValue.{KeptValue}
-use Rattle.pm_record.specs.Places.{has_place}
+use Rattle.pm_base.specs.Places.{has_place}
 use Rattle.pm_record.specs.Kinds.{is_power, is_power_kind}
 use Rattle.pm_record.specs.Record.{Kept, idle, lags_in}
 use Rattle.pm_record.specs.Marks.{LagsWithin, NoPowerLags}

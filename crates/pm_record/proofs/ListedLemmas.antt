@@ -11,7 +11,7 @@ use Rattle.pm_topology.specs.Units.{UnitLaws, rises, same_unit}
 use Rattle.pm_topology.proofs.UnitMapLaw.{set_nowhere}
 use Rattle.pm_record.proofs.Below.{ChipLaws}
 use Rattle.pm_record.specs.declared.kept.KeptValue.{KeptValue}
-use Rattle.pm_record.specs.Places.{has_place}
+use Rattle.pm_base.specs.Places.{has_place}
 use Rattle.pm_record.specs.Record.{Kept, idle, keep, kept_of, lags_in, mark, marked}
 use Rattle.pm_record.specs.Marks.{LagsNotAt, LagsWithin, Marks, Remakes, StandsElsewhere, with_mark}
 use Rattle.pm_record.proofs.MarkingLemmas.{marks_one}

@@ -9,7 +9,8 @@ use Rattle.std.proofs.lemmas.List.Folds.{list_any_none}
 use Rattle.std.proofs.lemmas.List.Sorted.{IsPermutation-insert, list_any-IsPermutation, searched}
 use Rattle.std.proofs.lemmas.List.{get_or_default}
 use Rattle.std.proofs.lemmas.Option.{get_or_from_slice_get, slice_get_cases, slice_get-get_or, slice_get_within}
-use Rattle.pm_record.specs.Places.{IsNext, RiseWithin, StandsBefore, has_place}
+use Rattle.pm_base.specs.Places.{has_place}
+use Rattle.pm_record.specs.Places.{IsNext, RiseWithin, StandsBefore}
 
 -- ---- they rise
 

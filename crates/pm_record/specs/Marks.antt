@@ -9,7 +9,7 @@ use Rattle.pm_topology.specs.declared.topology.Topology.{Topology}
 use Rattle.pm_topology.specs.UnitMap.{units_in, with_value}
 use Rattle.pm_topology.specs.Units.{has_in}
 use Rattle.pm_record.specs.declared.kept.KeptValue.{KeptValue}
-use Rattle.pm_record.specs.Places.{has_place}
+use Rattle.pm_base.specs.Places.{has_place}
 use Rattle.pm_record.specs.Record.{Kept, kept_of, kept_value, lags_in, mark, marked}
 
 -- each entry that lags stands at one of these places

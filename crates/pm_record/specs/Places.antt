@@ -1,10 +1,6 @@
 -- Places in rising order.
-use Rattle.std.specs.Prelude.{◌≡◌, ℕ, ◌+◌, ◌<◌, ◌≤◌, ◌==◌, Bool, false, List, [], ◌∷◌, length, slice_index_or, ⊤}
-use Rattle.std.specs.List.{list_any}
-
--- one of these places is this one
-abbrev pub has_place : List ℕ → ℕ → Bool
-has_place places k = list_any (λ p. p == k) places
+use Rattle.std.specs.Prelude.{◌≡◌, ℕ, ◌+◌, ◌<◌, ◌≤◌, false, List, [], ◌∷◌, length, slice_index_or, ⊤}
+use Rattle.pm_base.specs.Places.{has_place}
 
 -- places that rise, from this one on and below this end
 abbrev pub RiseWithin : ℕ → ℕ → List ℕ → Type 0

@@ -5,7 +5,7 @@ ghost use Rattle.pm_base.specs.declared.names.Unit.{Unit as Part};
 ghost use Rattle.pm_topology.specs.UnitMap.{place_of, units_in};
 ghost use Rattle.pm_topology.specs.Units.{rises};
 ghost use Rattle.pm_record.specs.Marks.{LagsWithin, Remakes, StandsElsewhere, with_mark};
-ghost use Rattle.pm_record.specs.Places.{has_place};
+ghost use Rattle.pm_base.specs.Places.{has_place};
 ghost use Rattle.pm_record.specs.Record.{marked};
 
 use crate::kept::KeptValue;

@@ -1,7 +1,8 @@
 //! A list of places in rising order.
 
 ghost use Rattle.std.specs.Prelude.{◌≡◌, ℕ, ◌<◌, ◌≤◌, ◌==◌, ◌||◌, [], false, true, IfOk, MatchResult, length, slice_get, unwrap_or, Some};
-ghost use Rattle.pm_record.specs.Places.{IsNext, RiseWithin, StandsBefore, has_place};
+ghost use Rattle.pm_base.specs.Places.{has_place};
+ghost use Rattle.pm_record.specs.Places.{IsNext, RiseWithin, StandsBefore};
 
 use pm_base::NoMemory;
 use std::alloc::Global;

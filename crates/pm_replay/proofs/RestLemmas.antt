@@ -1,6 +1,6 @@
 -- What comes after the lines of a script, and step 0 before them.
 use Rattle.std.proofs.Common.{◌≡◌, ℕ, ◌+◌, ◌<◌, ◌≤◌, Bool, true, false, List, [], ◌∷◌, ◌++◌, length, Option, Some, None, Result, Ok, Err, if◌then◌else◌, suc, refl, sym, ◌∙◌, ap, subst, arith, take_all}
-use Rattle.std.specs.Prelude.{◌&&◌, IfOk, flat_map, is_some, map, nat_lt, not}
+use Rattle.std.specs.Prelude.{◌&&◌, IfOk, flat_map, is_some, map, nat_lt, not, option_to_list}
 use Rattle.std.specs.List.{concat}
 use Rattle.std.proofs.lemmas.Bool.Decides.{nat_tests}
 use Rattle.std.proofs.lemmas.List.{append_assoc, append-nil, length-append}
@@ -27,8 +27,8 @@ use Rattle.pm_core.specs.Outbox.{Holds}
 use Rattle.pm_clock_tree.specs.declared.clock_tree.ClockChange.{ClockChange}
 use Rattle.pm_clock_tree.specs.declared.table.ClockDef.{ClockDef}
 use Rattle.pm_clock_tree.specs.Followed.{followed}
-use Rattle.pm_clock_tree.specs.Table.{clocks, place_of}
-use Rattle.pm_clock_tree.specs.Told.{Clocked, change, change_at, listed, same as alike}
+use Rattle.pm_clock_tree.specs.Table.{clock_place, clocks}
+use Rattle.pm_clock_tree.specs.Told.{Clocked, change, change_at, same as alike}
 use Rattle.pm_clock_tree.specs.Tree.{Tree, running, runs}
 use Rattle.pm_clocks.specs.Clocked.{tree_of, view_of}
 use Rattle.pm_split.specs.Boxes.{Boxes}
@@ -152,11 +152,11 @@ none_turned tree = by clocks
     it : Clocked
     it = record { tree = tree; told = running tree }
 
-    by : (defs : List ClockDef) → flat_map (λ (def : ClockDef). listed (change_at def.number it)) defs ≡ []
+    by : (defs : List ClockDef) → flat_map (λ (def : ClockDef). option_to_list (change_at def.number it)) defs ≡ []
     by [] = refl
     by (def ∷ defs) =
-        ap (λ (turn : Option ClockChange). listed turn ++ flat_map (λ (def : ClockDef). listed (change_at def.number it)) defs)
-        (unchanged (runs def.number tree) (is_some (place_of def.number)) def.number)
+        ap (λ (turn : Option ClockChange). option_to_list turn ++ flat_map (λ (def : ClockDef). option_to_list (change_at def.number it)) defs)
+        (unchanged (runs def.number tree) (is_some (clock_place def.number)) def.number)
         ∙ by defs
 
 module _ {O D : Type 0} (o : Sink.Ghosts O) (d : Device.Ghosts D) where

@@ -18,7 +18,7 @@ use Rattle.pm_rows.specs.Wanted.{least, limit_by}
 use Rattle.pm_cells.proofs.Counting.{one_if}
 use Rattle.pm_rows.proofs.Tallies.{with_off, with_on}
 use Rattle.pm_rows.specs.Kept.{IsKept}
-use Rattle.pm_rows.specs.Spans.{place_of, IsSpan}
+use Rattle.pm_rows.specs.Spans.{IsSpan, span_place}
 use Rattle.pm_rows.specs.Counted.{entries_of, is_placed, is_placed_pair, is_narrow, is_narrow_pair, is_narrow_row, is_narrow_entry, AreNarrow, IsTable, Table, Tally, with_limit, is_on, permitted_on}
 
 pub entries_len : (seeds : List Pair) (rows : List Row) → length seeds ≤ length rows → length (entries_of seeds rows) ≡ length seeds
@@ -157,7 +157,7 @@ seen_narrow now seeds rows tally wide room view are =
 -- the places of a slave
 pub seen_span : (now : Table) (seeds : Bounded Pair) (rows : List Row) (tally : Tally) (slaves : ℕ) (narrow : Bool) (first past : List ℕ) (wide room : ℕ)
     → record { entries = entries_of seeds.items rows; tally = tally; slaves = wide; room = room } ≡ now → IsKept seeds rows slaves narrow first past
-    → (s a b : ℕ) → a ≡ min (place_of s first) b → b ≡ place_of s past → IsSpan s a b now.entries
+    → (s a b : ℕ) → a ≡ min (span_place s first) b → b ≡ span_place s past → IsSpan s a b now.entries
 seen_span now seeds rows tally slaves narrow first past wide room view is s a b one two = record {
   order = omega arith;
   within = (let size = seen_len now seeds.items rows tally slaves wide room view is.base in let most = is.spans.within s in omega arith);
@@ -165,8 +165,8 @@ seen_span now seeds rows tally slaves narrow first past wide room view is s a b 
       let here : slice_get (entries_of seeds.items rows) k ≡ Some e = ap (λ (t : Table). slice_get t.entries k) view ∙ at in
       let pair = entries_seed seeds.items rows k e here in
       let inside = is.spans.inside k e.seed (slice_get_within seeds.items k e.seed pair) pair in
-      let low : place_of s first ≡ place_of e.seed.slave first = ap (λ t. place_of t first) (sym own) in
-      let high : place_of s past ≡ place_of e.seed.slave past = ap (λ t. place_of t past) (sym own) in
+      let low : span_place s first ≡ span_place e.seed.slave first = ap (λ t. span_place t first) (sym own) in
+      let high : span_place s past ≡ span_place e.seed.slave past = ap (λ t. span_place t past) (sym own) in
       (omega (arith, inside.0), omega (arith, inside.1));
 }
 

@@ -20,14 +20,14 @@ use Rattle.pm_rows.specs.Counted.{is_on, is_placed_pair, permitted_on, with_limi
 use Rattle.pm_rows.specs.Passes.{touches}
 use Rattle.pm_rows.specs.Rows.{is_at, is_of_other}
 use Rattle.pm_rows.specs.Seeking.{is_sought, slave_of}
-use Rattle.pm_rows.specs.Spans.{place_of, IsIndexed, IsSpan, IsCover}
+use Rattle.pm_rows.specs.Spans.{IsIndexed, IsSpan, IsCover, span_place}
 use Rattle.pm_rows.specs.Wanted.{with_row}
 use Rattle.pm_rows.proofs.Tallies.{with_off}
 use Rattle.pm_rows.proofs.Cells.{passes_at}
 
 -- ---- the places are found pair by pair
 
-none_placed : (n s : ℕ) → place_of s (replicate n 0) ≡ 0
+none_placed : (n s : ℕ) → span_place s (replicate n 0) ≡ 0
 none_placed zero zero = refl
 none_placed zero (suc s) = refl
 none_placed (suc n) zero = refl
@@ -38,18 +38,18 @@ pub indexed_first : (seeds : List Pair) (first past : List ℕ) (slaves some : �
 indexed_first seeds first past slaves some one two = record {
   same = ap length one ∙ (length-replicate {A = ℕ} slaves some ∙ sym (ap length two ∙ length-replicate {A = ℕ} slaves 0));
   inside = λ j seed below at. absurd (omega arith);
-  within = λ s. let none = ap (place_of s) two ∙ none_placed slaves s in omega arith;
+  within = λ s. let none = ap (span_place s) two ∙ none_placed slaves s in omega arith;
 }
 
-placed_same : (xs : List ℕ) (s place : ℕ) → s < length xs → place_of s (slice_set xs s place) ≡ place
+placed_same : (xs : List ℕ) (s place : ℕ) → s < length xs → span_place s (slice_set xs s place) ≡ place
 placed_same xs s place within = ap (λ got. unwrap_or got 0) (get_same xs s place within)
 
-placed_other : (xs : List ℕ) (s t place : ℕ) → s ≢ t → place_of t (slice_set xs s place) ≡ place_of t xs
+placed_other : (xs : List ℕ) (s t place : ℕ) → s ≢ t → span_place t (slice_set xs s place) ≡ span_place t xs
 placed_other xs s t place other = ap (λ got. unwrap_or got 0) (get_other xs s t place other)
 
 pub indexed_next : (k : ℕ) (seeds : List Pair) (first past : List ℕ) (seed : Pair) (low : ℕ) (first' past' : List ℕ) (slaves : ℕ)
     → IsIndexed k seeds first past → slice_get seeds k ≡ Some seed → list_all (is_placed_pair slaves) seeds ≡ true → length first ≡ slaves
-    → low ≡ min (place_of seed.slave first) k
+    → low ≡ min (span_place seed.slave first) k
     → first' ≡ slice_set first seed.slave low → past' ≡ slice_set past seed.slave (k + 1)
     → IsIndexed (k + 1) seeds first' past'
 indexed_next k seeds first past seed low first' past' slaves is at placed size low_is one two =
@@ -57,8 +57,8 @@ indexed_next k seeds first past seed low first' past' slaves is at placed size l
       same = length-set first seed.slave low ∙ (is.same ∙ sym (length-set past seed.slave (k + 1)));
       inside = λ j other below there. elim (same_or_not seed.slave other.slave _ refl) [
         | inl own ↦
-            let P : ℕ → Type 0 = λ s. (place_of s (slice_set first seed.slave low) ≤ j) × (j < place_of s (slice_set past seed.slave (k + 1))) in
-            subst P own (early j other below there own, let late : place_of seed.slave (slice_set past seed.slave (k + 1)) ≡ k + 1 = placed_same past seed.slave (k + 1) (omega (arith, is.same, room)) in omega arith)
+            let P : ℕ → Type 0 = λ s. (span_place s (slice_set first seed.slave low) ≤ j) × (j < span_place s (slice_set past seed.slave (k + 1))) in
+            subst P own (early j other below there own, let late : span_place seed.slave (slice_set past seed.slave (k + 1)) ≡ k + 1 = placed_same past seed.slave (k + 1) (omega (arith, is.same, room)) in omega arith)
         | inr apart ↦
             let before : j < k = earlier j other below there apart.0 in
             let was = is.inside j other before there in
@@ -68,8 +68,8 @@ indexed_next k seeds first past seed low first' past' slaves is at placed size l
       ];
       within = λ s. elim (same_or_not seed.slave s _ refl) [
         | inl own ↦
-            let P : ℕ → Type 0 = λ t. place_of t (slice_set past seed.slave (k + 1)) ≤ k + 1 in
-            subst P own (let late : place_of seed.slave (slice_set past seed.slave (k + 1)) ≡ k + 1 = placed_same past seed.slave (k + 1) (omega (arith, is.same, room)) in omega arith)
+            let P : ℕ → Type 0 = λ t. span_place t (slice_set past seed.slave (k + 1)) ≤ k + 1 in
+            subst P own (let late : span_place seed.slave (slice_set past seed.slave (k + 1)) ≡ k + 1 = placed_same past seed.slave (k + 1) (omega (arith, is.same, room)) in omega arith)
         | inr apart ↦
             let was = is.within s in
             let past_other = placed_other past seed.slave s (k + 1) (λ e. apart.0 (sym e)) in
@@ -81,15 +81,15 @@ indexed_next k seeds first past seed low first' past' slaves is at placed size l
     room = (let below : seed.slave < slaves = ltb-true _ _ (passes_at (is_placed_pair slaves) seeds k seed placed at) in omega arith)
 
     early : (j : ℕ) (other : Pair) → j < k + 1 → slice_get seeds j ≡ Some other → seed.slave ≡ other.slave
-        → place_of seed.slave (slice_set first seed.slave low) ≤ j
+        → span_place seed.slave (slice_set first seed.slave low) ≤ j
     early j other below there own =
-        let now : place_of seed.slave (slice_set first seed.slave low) ≡ low = placed_same first seed.slave low room in
+        let now : span_place seed.slave (slice_set first seed.slave low) ≡ low = placed_same first seed.slave low room in
         elim (same_or_not j k _ refl) [
           | inl last ↦ omega arith
           | inr before ↦
               let apart = before.0 in
-              let was : place_of other.slave first ≤ j = (is.inside j other (omega arith) there).0 in
-              let alike : place_of seed.slave first ≡ place_of other.slave first = ap (λ s. place_of s first) own in
+              let was : span_place other.slave first ≤ j = (is.inside j other (omega arith) there).0 in
+              let alike : span_place seed.slave first ≡ span_place other.slave first = ap (λ s. span_place s first) own in
               omega arith
         ]
 

@@ -6,15 +6,15 @@ use Rattle.pm_rows.specs.declared.passes.Pass.{Pass}
 use Rattle.pm_rows.specs.Passes.{touches}
 
 -- the place that is kept of a slave, and 0 where it isn't one of them
-abbrev pub place_of : ℕ → List ℕ → ℕ
-place_of s places = unwrap_or (slice_get places s) 0
+abbrev pub span_place : ℕ → List ℕ → ℕ
+span_place s places = unwrap_or (slice_get places s) 0
 
 -- each of the pairs before place k stands from the first place of its slave on, and before the place past its last one
 pub record IsIndexed (k : ℕ) (seeds : List Pair) (first past : List ℕ) : Type 0 where
   pub same : length first ≡ length past
   pub inside : (j : ℕ) (seed : Pair) → j < k → slice_get seeds j ≡ Some seed
-      → (place_of seed.slave first ≤ j) × (j < place_of seed.slave past)
-  pub within : (s : ℕ) → place_of s past ≤ k
+      → (span_place seed.slave first ≤ j) × (j < span_place seed.slave past)
+  pub within : (s : ℕ) → span_place s past ≤ k
 
 -- all rows on a slave stand from place a on and before place b
 pub record IsSpan (s a b : ℕ) (entries : List Entry) : Type 0 where

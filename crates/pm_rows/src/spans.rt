@@ -18,7 +18,7 @@ pub(crate) struct Spans {
 }
 
 /// The pair at a place.
-fn seed_at(seeds: &[Pair], k: usize) -> Pair
+pub(crate) fn seed_at(seeds: &[Pair], k: usize) -> Pair
     requires { k < length seeds.now }
     ensures { slice_get seeds.now k ≡ Some result }
 {
@@ -26,7 +26,7 @@ fn seed_at(seeds: &[Pair], k: usize) -> Pair
 }
 
 /// Sets the place of a slave, if it is one of them.
-fn set_place(places: &mut [usize], slave: usize, place: usize)
+pub(crate) fn set_place(places: &mut [usize], slave: usize, place: usize)
     ensures { places.new ≡ slice_set places.old slave place }
 {
     if slave < places.len() {
@@ -35,7 +35,7 @@ fn set_place(places: &mut [usize], slave: usize, place: usize)
 }
 
 /// As many slaves, with this place for each.
-fn places(alloc: Global, slaves: usize, place: usize) -> Result<Vec<usize>, NoMemory>
+pub(crate) fn places(alloc: Global, slaves: usize, place: usize) -> Result<Vec<usize>, NoMemory>
     ensures { IfOk result (λ places. places.items ≡ replicate slaves place) }
 {
     vec![in alloc; place; slaves].map_err(|_| NoMemory)

@@ -8,10 +8,9 @@ use Rattle.pm_object.specs.declared.attached.Attached.{Attached}
 use Rattle.pm_object.specs.declared.attached.Content.{Content}
 use Rattle.pm_object.specs.declared.attached.Content.TheVariants as content
 use Rattle.pm_object.specs.declared.object.Object.{Object}
-use Rattle.pm_object.specs.Attached.{have_same_masters, usable, usable_content}
+use Rattle.pm_object.specs.Attached.{IsFormed, have_same_masters, usable, usable_content}
 use Rattle.pm_object.specs.Grammar.{IsObject}
 use Rattle.pm_block.specs.Block.{attached_by}
-use Rattle.pm_block.specs.Pieces.{IsFormed}
 use Rattle.pm_topology.specs.declared.topology.Topology.{Topology}
 use Rattle.pm_state.specs.State.{objects_of, usable_among}
 use Rattle.pm_run.specs.Run.{fixed_of, setup_for}

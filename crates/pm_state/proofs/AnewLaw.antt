@@ -25,7 +25,7 @@ use Rattle.pm_rows.specs.Rows.{has_all, pair_of}
 use Rattle.pm_rows.specs.Sound.{AreOnce, AreRemadeRight, IsLoadable, IsRemadeRight, is_not_off, takes_alone}
 use Rattle.pm_rows.proofs.Lists.{fewer_of}
 use Rattle.pm_state.specs.Choice.{all_of}
-use Rattle.pm_state.specs.Members.{is_place}
+use Rattle.pm_base.specs.Places.{is_place}
 use Rattle.pm_state.specs.declared.pairs.Permitted.{Permitted}
 use Rattle.pm_state.specs.Pairs.{claims, current_by, cut_to, has_use_flag, pair_permitted, permitted_from, permitted_in, permitted_of, permitted_of_masters, permitted_on, preallocation, preset_by, seed_anew, seed_at_load, seeds_anew, seeds_at_load, start_anew, taker}
 use Rattle.pm_state.proofs.Each.{Each-append, Each-map}

@@ -20,7 +20,8 @@ use Rattle.pm_rows.specs.Sound.{AreOnce, AreSound}
 use Rattle.pm_base.proofs.Booleans.{first_passes}
 use Rattle.pm_state.specs.Boot.{active_at_load, boot_master, boot_proc}
 use Rattle.pm_state.specs.Load.{load_in}
-use Rattle.pm_state.specs.Members.{is_place, members_of, owner_at}
+use Rattle.pm_base.specs.Places.{is_place}
+use Rattle.pm_state.specs.Members.{members_of, owner_at}
 use Rattle.pm_state.specs.declared.pairs.Permitted.{Permitted}
 use Rattle.pm_state.specs.Pairs.{pairs_of, permitted_in, seeds_at_load}
 use Rattle.pm_state.specs.Policies.{most_pairs}

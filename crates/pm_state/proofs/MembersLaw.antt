@@ -13,7 +13,8 @@ use Rattle.pm_topology.specs.Masters.{procs_of}
 use Rattle.pm_topology.specs.Places.{proc_place}
 use Rattle.pm_procs.specs.Procs.{has_member, members_at}
 use Rattle.pm_base.proofs.Booleans.{either}
-use Rattle.pm_state.specs.Members.{is_place, member_at, members_among, members_from, members_of, owns}
+use Rattle.pm_base.specs.Places.{is_place}
+use Rattle.pm_state.specs.Members.{member_at, members_among, members_from, members_of, owns}
 
 -- each master has its list of processors
 pub members_count : (object : Object) (t : Topology) (m : ℕ) (masters : List MasterRec) → length (members_from object t m masters) ≡ length masters

@@ -15,7 +15,7 @@ use Rattle.pm_object.specs.declared.object.MasterRec.{MasterRec}
 use Rattle.pm_object.specs.declared.object.Object.{Object}
 use Rattle.pm_topology.specs.declared.topology.Topology.{Topology}
 use Rattle.pm_state.specs.declared.objects.Found.TheVariants as found
-use Rattle.pm_state.specs.Objects.{first_at, found_as, found_at, found_from, usable_first}
+use Rattle.pm_state.specs.Objects.{first_attached, found_as, found_at, found_from, usable_first}
 use Rattle.pm_state.specs.State.{Fixed, object_at, objects_of, usable_among}
 
 -- an object has the masters of the loaded one
@@ -96,7 +96,7 @@ found_one k j (content.Bad fault) usable is = cc
 found_one k j (content.Object object) true is = (refl, cc)
 found_one k j (content.Object object) false is = cc
 
-find_here : (address : ℕ) (a : Attached) (later : List Attached) (here : Bool) → (a.address == address) ≡ here → first_at address (a ∷ later) ≡ (if here then Some a else first_at address later)
+find_here : (address : ℕ) (a : Attached) (later : List Attached) (here : Bool) → (a.address == address) ≡ here → first_attached address (a ∷ later) ≡ (if here then Some a else first_attached address later)
 find_here address a later true is = rw is refl
 find_here address a later false is = rw is refl
 

@@ -17,7 +17,8 @@ use Rattle.pm_topology.specs.declared.topology.ProcDef.{ProcDef}
 use Rattle.pm_topology.specs.declared.topology.SlaveDef.{SlaveDef}
 use Rattle.pm_state.specs.declared.scope.Scope.{Scope}
 use Rattle.pm_state.specs.declared.scope.Scope.TheVariants.{Under}
-use Rattle.pm_state.specs.Members.{is_place, owner_at, owns}
+use Rattle.pm_base.specs.Places.{is_place}
+use Rattle.pm_state.specs.Members.{owner_at, owns}
 use Rattle.pm_state.specs.Prims.{Prim, Put_proc, changed, proc_put, with_proc}
 use Rattle.pm_state.specs.Below.{passing}
 use Rattle.pm_state.specs.Scope.{IsPlaced, clear, clears_from, is_slave_under, is_under, of_masters, off, off_at, off_by, off_of, offs_from}

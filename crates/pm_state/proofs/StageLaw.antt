@@ -15,7 +15,8 @@ use Rattle.pm_rows.specs.declared.row.Change.{Change}
 use Rattle.pm_rows.specs.Modes.{mode_in}
 use Rattle.pm_rows.specs.Rows.{mode_of, entry_at}
 use Rattle.pm_rows.specs.Sound.{IsFit}
-use Rattle.pm_state.specs.Members.{mode_of_master, owner_at, owns, is_place}
+use Rattle.pm_base.specs.Places.{is_place}
+use Rattle.pm_state.specs.Members.{mode_of_master, owner_at, owns}
 use Rattle.pm_state.specs.Pairs.{pairs_of}
 use Rattle.pm_state.specs.Prims.{Prim, At_row, Settle, Put_proc, Shift, applies, changed, proc_put}
 use Rattle.pm_state.specs.Sound.{AreLines, AreNotes, AreNamed, ArmsOwn, HasProcs, HasRoomForRows, HasSoundRows, IsOfRun, IsSound}

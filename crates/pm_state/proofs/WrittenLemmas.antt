@@ -9,7 +9,8 @@ use Rattle.pm_object.specs.declared.object.MasterRec.{MasterRec}
 use Rattle.pm_topology.specs.declared.topology.ProcDef.{ProcDef}
 use Rattle.pm_state.specs.declared.scope.Scope.{Scope}
 use Rattle.pm_state.specs.Changes.{Written, with_proc, writes, written, written_by}
-use Rattle.pm_state.specs.Members.{is_place, owner_at, owns}
+use Rattle.pm_base.specs.Places.{is_place}
+use Rattle.pm_state.specs.Members.{owner_at, owns}
 use Rattle.pm_state.specs.Prims.{Prim, Put_proc, apply, applies, changed}
 use Rattle.pm_state.specs.Scope.{off, off_at, off_by, off_of, offs_from}
 use Rattle.pm_state.specs.Stages.{follow_at, follow_from}

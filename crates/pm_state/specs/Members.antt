@@ -1,5 +1,6 @@
 -- The processors of the configured masters, and the modes of the masters by them.
-use Rattle.std.specs.Prelude.{ℕ, ◌+◌, ◌==◌, Bool, false, List, [], ◌∷◌, ◌++◌, slice_get, Option, Some, None, if◌then◌else◌, option_and_then}
+use Rattle.std.specs.Prelude.{ℕ, ◌+◌, Bool, List, [], ◌∷◌, ◌++◌, slice_get, Option, Some, None, if◌then◌else◌, option_and_then}
+use Rattle.pm_base.specs.Places.{is_place}
 use Rattle.pm_base.specs.declared.names.Mode.{Mode}
 use Rattle.pm_base.specs.declared.names.NodeId.{NodeId}
 use Rattle.pm_object.specs.declared.object.MasterRec.{MasterRec}
@@ -15,11 +16,6 @@ use Rattle.pm_state.specs.State.{Fixed, CoreHalf}
 -- the place of the configured master that has the processor at a place, by the object that was loaded
 abbrev pub owner_at : Object → Topology → ℕ → Option ℕ
 owner_at object t p = option_and_then (λ (proc : ProcDef). owner object t proc.node) (slice_get t.procs p)
-
--- this place is the one at m
-abbrev pub is_place : ℕ → Option ℕ → Bool
-is_place m None = false
-is_place m (Some k) = k == m
 
 -- the processor at place p is that of the master at place m
 abbrev pub owns : Object → Topology → ℕ → ℕ → Bool

@@ -1,6 +1,6 @@
 -- What a book says of its masters, processors and rows by the numbers of nodes.
 use Rattle.std.specs.Prelude.{ℕ, ◌==◌, List, slice_get, position, Option, Some, None, option_map}
-use Rattle.std.specs.Option.{option_map_or}
+use Rattle.std.specs.Option.{option_map_or, option_or}
 use Rattle.pm_base.specs.declared.names.NodeId.{NodeId}
 use Rattle.pm_base.specs.declared.names.Mode.{Mode}
 use Rattle.pm_base.specs.declared.names.Mode.TheVariants.{Off}
@@ -22,14 +22,9 @@ abbrev pub master_node : List MasterRec → ℕ → NodeId
 master_node masters place =
     option_map_or (λ (master : MasterRec). record { 0 = master.node }) (slice_get masters place) (record { 0 = 0 })
 
--- the first of two places that is there
-abbrev pub first_place : Option ℕ → Option ℕ → Option ℕ
-first_place None second = second
-first_place (Some m) second = Some m
-
 -- the master that a node names: the configured master of that number, and else the one that has that processor
 abbrev pub named_master : Fixed → NodeId → Option ℕ
-named_master fixed node = first_place
+named_master fixed node = option_or
     (position (λ (master : MasterRec). master.node == node.0) fixed.object.masters)
     (owner fixed.object fixed.topology node)
 

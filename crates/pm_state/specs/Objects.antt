@@ -30,8 +30,8 @@ abbrev pub found_at : ℕ → Fixed → Found
 found_at address fixed = found_from fixed.object address 1 fixed.attached
 
 -- what is attached first at an address, where that can be put in force
-abbrev pub first_at : ℕ → List Attached → Option Attached
-first_at address attached = find (λ (a : Attached). a.address == address) attached
+abbrev pub first_attached : ℕ → List Attached → Option Attached
+first_attached address attached = find (λ (a : Attached). a.address == address) attached
 
 abbrev pub usable_first : Object → ℕ → List Attached → Option Object
-usable_first object address attached = option_and_then (usable object) (first_at address attached)
+usable_first object address attached = option_and_then (usable object) (first_attached address attached)

@@ -1,6 +1,6 @@
 -- The pairs of a master and a slave that the object permits, each with what is fixed of its row.
 use Rattle.std.specs.Prelude.{ℕ, ◌+◌, ◌==◌, ◌&&◌, ◌||◌, Bool, false, if◌then◌else◌, List, [], ◌∷◌, ◌++◌, find, map, Option, Some, None, is_some, bit_and}
-use Rattle.std.specs.Option.{option_map}
+use Rattle.std.specs.Option.{option_map, option_or}
 use Rattle.pm_base.specs.declared.caps.Caps.{Caps}
 use Rattle.pm_object.specs.declared.object.Object.{Object}
 use Rattle.pm_object.specs.declared.object.MasterRec.{MasterRec}
@@ -17,21 +17,16 @@ use Rattle.pm_rows.specs.declared.row.Pair.{Pair}
 use Rattle.pm_rows.specs.declared.row.RowSeed.{RowSeed}
 use Rattle.pm_state.specs.declared.pairs.Permitted.{Permitted}
 use Rattle.pm_state.specs.Choice.{all_of}
-use Rattle.pm_state.specs.Members.{is_place}
+use Rattle.pm_base.specs.Places.{is_place}
 
 -- the first preallocation of a group for a slave, where the group has the master's bit
 abbrev pub first_for : MasterRec → SlaveDef → PreGroup → Option PreRec
 first_for master slave group =
     if mask_has group.mask master.mask then find (λ (r : PreRec). r.node == slave.node.0) group.recs else None
 
--- the first of two, where it is there
-abbrev pub or_else : Option PreRec → Option PreRec → Option PreRec
-or_else (Some r) other = Some r
-or_else None other = other
-
 abbrev pub first_among : MasterRec → SlaveDef → List PreGroup → Option PreRec
 first_among master slave [] = None
-first_among master slave (group ∷ groups) = or_else (first_for master slave group) (first_among master slave groups)
+first_among master slave (group ∷ groups) = option_or (first_for master slave group) (first_among master slave groups)
 
 -- the preallocation of a master for a slave: the first one in object order
 abbrev pub preallocation : Object → MasterRec → SlaveDef → Option PreRec

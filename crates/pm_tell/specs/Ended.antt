@@ -5,7 +5,7 @@ use Rattle.pm_procs.specs.Pending.{is_due}
 use Rattle.pm_ipi.specs.Status.{abort_suspend, timeout}
 use Rattle.pm_tell.specs.declared.ended.Ended.{Ended}
 use Rattle.pm_values.specs.declared.turns.Turns.{Turns}
-use Rattle.pm_state.specs.Members.{is_place}
+use Rattle.pm_base.specs.Places.{is_place}
 
 -- whether a request is due in a step, in which this time passes, if any does
 abbrev pub due_after : Option ℕ → Pending → Bool

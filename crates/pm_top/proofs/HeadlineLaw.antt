@@ -30,7 +30,7 @@ use Rattle.pm_apply.specs.Part.{Kept}
 use Rattle.pm_record.specs.Record.{at_zero}
 use Rattle.pm_laws.specs.Border.{AreObjects, unit_beyond}
 use Rattle.pm_laws.specs.Quiet.{quiet}
-use Rattle.pm_laws.specs.ReachBorder.{IsBorderOf, border_of, place_of}
+use Rattle.pm_laws.specs.ReachBorder.{IsBorderOf, border_of, configured_place}
 use Rattle.pm_board.specs.Board.{Standing}
 use Rattle.pm_trace.specs.Line.{line_text}
 use Rattle.pm_drive.specs.Completed.{completed_in}
@@ -127,7 +127,7 @@ module _ (object : Object) (t : Topology) (events : List Event) (m : NodeId) whe
 
 -- ---- a slave to which no path leads
 
-module _ (kinds : KindLaws) (exact : (fixed : Fixed) (m : NodeId) (from : ℕ) → place_of fixed.object m ≡ Some from → IsBorderOf fixed from (border_of fixed m)) (object : Object) (t : Topology) (events : List Event) (m slave : NodeId) (formed : IsWellFormed t) (is : IsBeyondPaths object t events m slave) where
+module _ (kinds : KindLaws) (exact : (fixed : Fixed) (m : NodeId) (from : ℕ) → configured_place fixed.object m ≡ Some from → IsBorderOf fixed from (border_of fixed m)) (object : Object) (t : Topology) (events : List Event) (m slave : NodeId) (formed : IsWellFormed t) (is : IsBeyondPaths object t events m slave) where
   abbrev fixed : Fixed
   fixed = fixed_of (setup_for object t events)
 
@@ -147,7 +147,7 @@ module _ (kinds : KindLaws) (exact : (fixed : Fixed) (m : NodeId) (from : ℕ) �
 -- what is known of runs
 pub record HeadlineLaws {D : Type 0} (d : Device.Ghosts D) : Type 0 where
   pub kinds : KindLaws
-  pub exact : (fixed : Fixed) (m : NodeId) (from : ℕ) → place_of fixed.object m ≡ Some from → IsBorderOf fixed from (border_of fixed m)
+  pub exact : (fixed : Fixed) (m : NodeId) (from : ℕ) → configured_place fixed.object m ≡ Some from → IsBorderOf fixed from (border_of fixed m)
   pub objects : (object : Object) (t : Topology) (events : List Event) → IsObject object → AreObjects (fixed_of (setup_for object t events))
   pub keeps : (c : Setup) (events : List Event) (answers : List (List Bool)) (old new : D) → AreObjects (fixed_of c) → IsWellFormed c.topology → Drove d c (driven c answers events) old new → KeepsApart d c answers events old new
   pub causes : (c : Setup) (events : List Event) → HaveCauses (cores_in (run c events))

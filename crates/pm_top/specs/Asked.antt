@@ -6,7 +6,7 @@ use Rattle.pm_io.specs.Inputs.{Moment}
 use Rattle.pm_base.specs.declared.names.NodeId.{NodeId}
 use Rattle.pm_io.specs.declared.prefix.StopReason.{StopReason}
 use Rattle.pm_io.specs.declared.prefix.StopReason.TheVariants.{End, Limit, Failure, Unbegun}
-use Rattle.pm_io.specs.Numbers.{at_most, number_of}
+use Rattle.pm_io.specs.Numbers.{at_most, greatest_number, number_of}
 use Rattle.pm_io.specs.Prefix.{Prefix, prefix_of}
 use Rattle.pm_object.specs.declared.object.MasterRec.{MasterRec}
 use Rattle.pm_object.specs.declared.object.Object.{Object}
@@ -16,12 +16,12 @@ use Rattle.pm_object.specs.Reading.{reading}
 use Rattle.pm_gen.specs.Laboratory.{laboratory}
 use Rattle.pm_objtext.specs.declared.fault.TextFault.{TextFault}
 use Rattle.pm_objtext.specs.Building.{building}
-use Rattle.pm_objtext.specs.Meaning.{Means}
+use Rattle.pm_objtext.specs.Meaning.{Means, most_bytes}
 use Rattle.pm_chip.specs.Chip.{chip}
 use Rattle.pm_topology.specs.declared.topology.Topology.{Topology}
 use Rattle.pm_topofile.specs.declared.fault.TopologyError.{TopologyError}
 use Rattle.pm_topofile.specs.declared.fault.TopologyError.TheVariants.{Bad, Rule, Memory as NoRoom}
-use Rattle.pm_topofile.specs.Meaning.{meaning}
+use Rattle.pm_topofile.specs.Meaning.{meaning, most_bytes as most_topology_bytes}
 use Rattle.pm_script.specs.Script.{Script, over, script_limit, script_of}
 use Rattle.pm_script.specs.Script.Stop.{End as AtEnd}
 use Rattle.pm_trace.specs.declared.faults.Fault.{Fault}
@@ -39,11 +39,11 @@ object_limit = 16384
 
 -- the most bytes of the text of an object
 abbrev pub text_limit : ℕ
-text_limit = 1048576
+text_limit = most_bytes
 
 -- the most bytes of the text of a topology
 abbrev pub topology_limit : ℕ
-topology_limit = 1048576
+topology_limit = most_topology_bytes
 
 -- ---- what a name gives
 
@@ -171,7 +171,7 @@ if_master object (Some n) = if list_any (λ (r : MasterRec). r.node == n) object
 
 -- the master of an object whose number a word is; none if it is no number, or no master has it
 abbrev pub master_of : Object → List ℕ → Option NodeId
-master_of object name = if_master object (at_most 4294967295 (number_of name))
+master_of object name = if_master object (at_most greatest_number (number_of name))
 
 -- the subject with this master of the object; Node without one
 abbrev pub with_named : Object → Topology → ℕ → Option NodeId → Result Subject Fault

@@ -22,7 +22,7 @@ use Rattle.pm_state.specs.State.{objects_in}
 use Rattle.pm_run.specs.Run.{Line, cores_in, run, setup_for}
 use Rattle.pm_causes.specs.Caused.{HaveCauses}
 use Rattle.pm_laws.specs.Quiet.{quiet}
-use Rattle.pm_laws.specs.ReachBorder.{place_of}
+use Rattle.pm_laws.specs.ReachBorder.{configured_place}
 use Rattle.pm_trace.specs.declared.line.Word.{Word}
 use Rattle.pm_trace.specs.Line.{line_text}
 use Rattle.pm_board.specs.Board.{Standing}
@@ -56,7 +56,7 @@ pub record IsBeyondPaths (object : Object) (topology : Topology) (events : List 
   pub from : ℕ
   pub place : ℕ
   pub entry : SlaveDef
-  pub master : place_of object m ≡ Some from
+  pub master : configured_place object m ≡ Some from
   pub there : slice_get topology.slaves place ≡ Some entry
   pub is : entry.node ≡ slave
   pub beyond : IsIn (objects_in object (attached_by events)) topology from members.Slave (Node slave) → ⊥

@@ -23,7 +23,8 @@ use Rattle.pm_topofile.specs.declared.item.Item.{Item}
 use Rattle.pm_topofile.specs.declared.item.Item.TheVariants.{Empty, Power, Proc, Slave, State, Line, Owner}
 use Rattle.pm_topofile.specs.Answers.{Gives}
 use Rattle.pm_topofile.specs.Reading.{power_with, proc_with, slave_with, state_with, line_with, owner_with, form_item, has_count, keyword_of, keyword_item, words_item, item_of}
-use Rattle.pm_topofile.specs.Taking.{nothing, stands, place_of, optional_place, under, with_state, with_power, with_proc, with_slave, placed, taken}
+use Rattle.pm_topology.specs.Places.{power_place}
+use Rattle.pm_topofile.specs.Taking.{nothing, stands, optional_place, under, with_state, with_power, with_proc, with_slave, placed, taken}
 use Rattle.pm_topofile.specs.Meaning.{at_line, item_taken, line_taken, lines_taken, unless_bad, unless_broken, checked, meaning, most_bytes}
 
 -- ---- items
@@ -134,8 +135,8 @@ same_known t u known is = let same : t ≡ u = cc in subst (λ (t : Topology). A
 placed_known : (item : Item) (t u : Topology) → IsKnown item → AreKnown t.slaves → placed item t ≡ Ok u → AreKnown u.slaves
 placed_known Empty t u item known is = same_known t u known is
 placed_known (Power p) t u item known is = under_known (optional_place p.parent t.powers) (with_power p t) u (λ parent. known) is
-placed_known (Proc p) t u item known is = under_known (place_of p.parent t.powers) (with_proc p t) u (λ parent. known) is
-placed_known (Slave s) t u item known is = under_known (place_of s.parent t.powers) (with_slave s t) u (λ parent. AllByRecursion-append (λ (s : SlaveDef). AllByRecursion (λ (e : SlaveState). e.caps.0 < 8) s.states) t.slaves (record { node = s.node; parent = parent; states = [] } ∷ []) known (tt, tt)) is
+placed_known (Proc p) t u item known is = under_known (power_place t.powers p.parent.0) (with_proc p t) u (λ parent. known) is
+placed_known (Slave s) t u item known is = under_known (power_place t.powers s.parent.0) (with_slave s t) u (λ parent. AllByRecursion-append (λ (s : SlaveDef). AllByRecursion (λ (e : SlaveState). e.caps.0 < 8) s.states) t.slaves (record { node = s.node; parent = parent; states = [] } ∷ []) known (tt, tt)) is
 placed_known (State s) t u item known is = same_known _ u (state_taken s t.slaves item known) is
 placed_known (Line l) t u item known is = same_known _ u known is
 placed_known (Owner node procs) t u item known is = same_known _ u known is

@@ -16,8 +16,8 @@ use Rattle.pm_topofile.specs.declared.item.ProcLine.{ProcLine}
 use Rattle.pm_topofile.specs.declared.item.SlaveLine.{SlaveLine}
 use Rattle.pm_topofile.specs.declared.item.Item.{Item}
 use Rattle.pm_topofile.specs.declared.item.Item.TheVariants.{Power, Proc, Slave, State, Line, Owner}
-use Rattle.pm_topofile.specs.Table.{keyword_text, greatest, greatest_flag}
-use Rattle.pm_io.specs.Numbers.{numbers_in}
+use Rattle.pm_topofile.specs.Table.{keyword_text, greatest_flag}
+use Rattle.pm_io.specs.Numbers.{greatest_number, numbers_in}
 use Rattle.pm_topofile.specs.Reading.{keyword_item, form_item, has_count, node_in, optional_in, number}
 use Rattle.pm_topofile.specs.Taking.{taken}
 use Rattle.pm_topofile.specs.Meaning.{line_taken, lines_taken}
@@ -60,7 +60,7 @@ module _ {X : Type 0} (text : X → List ℕ) (D : List X → Topology) (whole :
 -- ---- words that are read
 
 node-decimal : (node : NodeId) → node.0 < 2 ^ 32 → node_in (decimal node.0) ≡ Some node
-node-decimal node small = rw (number-decimal greatest node.0 (omega arith) small) refl
+node-decimal node small = rw (number-decimal greatest_number node.0 (omega arith) small) refl
 
 abbrev pub number_in : Option NodeId → Option ℕ
 number_in node = option_map (λ (n : NodeId). n.0) node
@@ -73,8 +73,8 @@ flag-decimal : (set : Bool) → option_map (λ n. n == 1) (number greatest_flag 
 flag-decimal true = rw (number-decimal 1 1 (omega arith) (omega arith)) refl
 flag-decimal false = rw (number-decimal 1 0 (omega arith) (omega arith)) refl
 
-number-bare : (n : ℕ) → n < 2 ^ 32 → number greatest (decimal n) ≡ Some n
-number-bare n small = number-decimal greatest n (omega arith) small
+number-bare : (n : ℕ) → n < 2 ^ 32 → number greatest_number (decimal n) ≡ Some n
+number-bare n small = number-decimal greatest_number n (omega arith) small
 
 pub flag_small : (set : Bool) → IsSmall (flag set)
 flag_small true = omega arith
@@ -112,7 +112,7 @@ numbers_of procs = map (λ (n : NodeId). n.0) procs
 abbrev pub AreSmallNodes : List NodeId → Type 0
 AreSmallNodes procs = AllByRecursion (λ (n : NodeId). n.0 < 2 ^ 32) procs
 
-numbers-bare : (procs : List NodeId) → AreSmallNodes procs → numbers_in greatest (map bare (map number_of procs)) ≡ Some (numbers_of procs)
+numbers-bare : (procs : List NodeId) → AreSmallNodes procs → numbers_in greatest_number (map bare (map number_of procs)) ≡ Some (numbers_of procs)
 numbers-bare [] small = refl
 numbers-bare (p ∷ procs) small = rw (number-bare p.0 small.0, numbers-bare procs small.1) refl
 

@@ -25,7 +25,8 @@ use Rattle.pm_topofile.specs.declared.item.SlaveLine.{SlaveLine}
 use Rattle.pm_topofile.specs.declared.item.Item.{Item}
 use Rattle.pm_topofile.specs.declared.item.Item.TheVariants.{Empty, Power, Proc, Slave, State, Line, Owner}
 use Rattle.pm_topofile.specs.Means.{node_at, power_item, proc_item, slave_items, entry_items, owner_item, AreOwners}
-use Rattle.pm_topofile.specs.Taking.{nothing, before_masters, before_lines, before_slaves, before_procs, stands, place_of, optional_place, under, with_state, with_members, with_power, with_proc, with_slave, placed, taken}
+use Rattle.pm_topology.specs.Places.{power_place}
+use Rattle.pm_topofile.specs.Taking.{nothing, before_masters, before_lines, before_slaves, before_procs, stands, optional_place, under, with_state, with_members, with_power, with_proc, with_slave, placed, taken}
 use Rattle.pm_topofile.proofs.LastLemmas.{with_state-last, with_members-same, with_members-other}
 use Rattle.pm_topofile.proofs.MeansLines.{IsSaid, items_taken, good_first}
 
@@ -56,7 +57,7 @@ record IsAt (powers : List PowerDef) (node : NodeId) (place : ℕ) : Type 0 wher
   pub within : place < length powers
   pub named : node_at powers place ≡ node
 
-is_at : (powers : List PowerDef) (node : NodeId) (place : ℕ) → place_of node powers ≡ Some place → IsAt powers node place
+is_at : (powers : List PowerDef) (node : NodeId) (place : ℕ) → power_place powers node.0 ≡ Some place → IsAt powers node place
 is_at powers node place is =
     let first = position-first (λ (p : PowerDef). p.node.0 == node.0) powers place is in
     let number : first.element.node.0 ≡ node.0 = eqb-true first.element.node.0 node.0 first.passes in
@@ -108,9 +109,9 @@ is_found : (powers more : List PowerDef) (named : Option NodeId) (parent : Optio
 is_found powers more None parent is =
     let none : None ≡ parent = cc in
     subst (IsFound powers more None) none (record { early = tt; again = refl })
-is_found powers more (Some node) parent is = at (place_of node powers) refl is
+is_found powers more (Some node) parent is = at (power_place powers node.0) refl is
   where
-    at : (place : Option ℕ) → place_of node powers ≡ place → option_map Some place ≡ Some parent → IsFound powers more (Some node) parent
+    at : (place : Option ℕ) → power_place powers node.0 ≡ place → option_map Some place ≡ Some parent → IsFound powers more (Some node) parent
     at None there is = cc
     at (Some w) there is =
         let one : Some w ≡ parent = cc in
@@ -195,14 +196,14 @@ procs_alone t done owners are slaves lines none =
     ∙ ap (λ (xs : List Item). map (power_item t.powers) t.powers ++ (map (proc_item t.powers) t.procs ++ xs)) none
     ∙ ap (λ (xs : List Item). map (power_item t.powers) t.powers ++ xs) (append-nil (map (proc_item t.powers) t.procs))
 
-take_proc : (done : List Item) (t u : Topology) (p : ProcLine) → SoFar done t → before_slaves t ≡ true → under (place_of p.parent t.powers) (with_proc p t) ≡ Ok u → SoFar (done ++ Proc p ∷ []) u
+take_proc : (done : List Item) (t u : Topology) (p : ProcLine) → SoFar done t → before_slaves t ≡ true → under (power_place t.powers p.parent.0) (with_proc p t) ≡ Ok u → SoFar (done ++ Proc p ∷ []) u
 take_proc done t u p so_far stand is =
     let b = both (length t.slaves == 0) (before_lines t) stand in
     let c = both (length t.lines == 0) (before_masters t) b.1 in
     let slaves = none_of_test t.slaves b.0 in
     let lines = none_of_test t.lines c.0 in
     let masters = none_of_test t.masters c.1 in
-    let got = under_some (place_of p.parent t.powers) (with_proc p t) u is in
+    let got = under_some (power_place t.powers p.parent.0) (with_proc p t) u is in
     let new : ProcDef = record { node = p.node; parent = got.0; figure = p.figure; latency = p.latency } in
     let by = is_at t.powers p.parent got.0 got.1 in
     let before = procs_alone t done so_far.owners so_far.are slaves lines (owners_none so_far.owners t.masters masters so_far.owned) in
@@ -234,12 +235,12 @@ flat_seam front f xs x items item is =
     ap (λ (l : List Item). front ++ l) (flat_map-append f xs (x ∷ []) ∙ ap (λ (l : List Item). flat_map f xs ++ l) (append-nil (f x) ∙ is) ∙ sym (append_assoc (flat_map f xs) items (item ∷ [])))
     ∙ sym (append_assoc front (flat_map f xs ++ items) (item ∷ []))
 
-take_slave : (done : List Item) (t u : Topology) (s : SlaveLine) → SoFar done t → before_lines t ≡ true → under (place_of s.parent t.powers) (with_slave s t) ≡ Ok u → SoFar (done ++ Slave s ∷ []) u
+take_slave : (done : List Item) (t u : Topology) (s : SlaveLine) → SoFar done t → before_lines t ≡ true → under (power_place t.powers s.parent.0) (with_slave s t) ≡ Ok u → SoFar (done ++ Slave s ∷ []) u
 take_slave done t u s so_far stand is =
     let c = both (length t.lines == 0) (before_masters t) stand in
     let lines = none_of_test t.lines c.0 in
     let masters = none_of_test t.masters c.1 in
-    let got = under_some (place_of s.parent t.powers) (with_slave s t) u is in
+    let got = under_some (power_place t.powers s.parent.0) (with_slave s t) u is in
     let new : SlaveDef = record { node = s.node; parent = got.0; states = [] } in
     let by = is_at t.powers s.parent got.0 got.1 in
     let before = slaves_alone t done so_far.owners so_far.are lines (owners_none so_far.owners t.masters masters so_far.owned) in

@@ -15,7 +15,8 @@ use Rattle.pm_topology.specs.WellFormed.{AreDistinct, IsWellFormed}
 use Rattle.pm_topofile.specs.declared.item.Item.{Item}
 use Rattle.pm_topofile.specs.declared.item.Item.TheVariants.{Slave, State, Line}
 use Rattle.pm_topofile.specs.Means.{node_at, power_item, proc_item, slave_items, owner_item, AreOwners, AreItemsOf}
-use Rattle.pm_topofile.specs.Taking.{nothing, place_of, optional_place, taken}
+use Rattle.pm_topology.specs.Places.{power_place}
+use Rattle.pm_topofile.specs.Taking.{nothing, optional_place, taken}
 use Rattle.pm_topofile.proofs.MeansLines.{items_taken}
 use Rattle.pm_topofile.proofs.Printed.{at_seam, placed_at, front_distinct, in_front, with_powers, takes_power, with_procs, takes_proc, with_slaves, with_states, takes_slave, takes_state, with_lines, takes_line, with_masters, master, takes_new, takes_more}
 
@@ -51,7 +52,7 @@ walks_map {X} f D whole takes rest =
 
 -- ---- parents
 
-parent_at : (powers front back : List PowerDef) (w : ℕ) → front ++ back ≡ powers → AreDistinct (λ (p : PowerDef). p.node.0) powers → w < length front → place_of (node_at powers w) front ≡ Some w
+parent_at : (powers front back : List PowerDef) (w : ℕ) → front ++ back ≡ powers → AreDistinct (λ (p : PowerDef). p.node.0) powers → w < length front → power_place front (node_at powers w).0 ≡ Some w
 parent_at powers front back w is distinct within =
     let q = in_front front back powers w is within in
     let found = placed_at front w q.0 (front_distinct (λ (p : PowerDef). p.node.0) front back powers is distinct) q.1 in
@@ -75,7 +76,7 @@ walk_procs t w rest =
     (λ front p back is. takes_proc t.powers front p (node_at t.powers p.parent)
     (parent_at t.powers t.powers [] p.parent (append-nil t.powers) w.powers_distinct (w.proc_parents (length front) p (at_seam front p back t.procs is)))) rest
 
-walk_slave : (t : Topology) (front : List SlaveDef) (s : SlaveDef) (rest : List Item) → place_of (node_at t.powers s.parent) t.powers ≡ Some s.parent
+walk_slave : (t : Topology) (front : List SlaveDef) (s : SlaveDef) (rest : List Item) → power_place t.powers (node_at t.powers s.parent).0 ≡ Some s.parent
     → Walks (slave_items t.powers s ++ rest) (with_slaves t.powers t.procs front) (with_slaves t.powers t.procs (front ++ s ∷ [])) rest
 walk_slave t front s rest place =
     walks_one (Slave (record { node = s.node; parent = node_at t.powers s.parent })) (with_slaves t.powers t.procs front) (with_slaves t.powers t.procs (front ++ with_states s [] ∷ [])) (map State s.states ++ rest)

@@ -20,7 +20,8 @@ use Rattle.pm_topofile.specs.declared.table.Keyword.TheVariants as keywords
 use Rattle.pm_topofile.specs.declared.item.Item.TheVariants.{Power, Proc, Slave, State, Line, Owner}
 use Rattle.pm_topology.proofs.WellFormedLaw.{faultless_where}
 use Rattle.pm_topofile.specs.Meaning.{meaning, most_bytes}
-use Rattle.pm_topofile.specs.Taking.{nothing, place_of, optional_place, taken, with_members}
+use Rattle.pm_topology.specs.Places.{power_place}
+use Rattle.pm_topofile.specs.Taking.{nothing, optional_place, taken, with_members}
 use Rattle.pm_topofile.specs.Printing.{IsSmall, AreSmall, IsSmallSlave, HasSmallNumbers, line_text, power_at, power_words, proc_words, slave_words, state_words, reset_words, owner_words, power_text, proc_text, slave_text, state_text, reset_text, owner_line, owner_lines, owner_text, number_of, text_of}
 use Rattle.pm_topofile.proofs.Lengths.{small_parts, text_short, within_limits}
 use Rattle.pm_topofile.proofs.LastLemmas.{with_state-last, with_members-same}
@@ -45,7 +46,7 @@ first_passing p (x ∷ xs) (suc w) q here passes others =
     rw fails (omega (arith, first_passing p xs w q here passes (λ k y within there. others (suc k) y (omega arith) there)))
 
 -- the place of an entry by its number
-pub placed_at : (powers : List PowerDef) (w : ℕ) (q : PowerDef) → AreDistinct (λ (p : PowerDef). p.node.0) powers → slice_get powers w ≡ Some q → place_of q.node powers ≡ Some w
+pub placed_at : (powers : List PowerDef) (w : ℕ) (q : PowerDef) → AreDistinct (λ (p : PowerDef). p.node.0) powers → slice_get powers w ≡ Some q → power_place powers q.node.0 ≡ Some w
 placed_at powers w q distinct here =
     let test : PowerDef → Bool = λ p. p.node.0 == q.node.0 in
     let at : position_or_len test powers ≡ w = first_passing test powers w q here (equal q.node.0 q.node.0 refl) (λ k p within there. unequal p.node.0 q.node.0 (λ same. let one = distinct k w p q there here same in absurd (omega arith))) in
@@ -105,14 +106,14 @@ with_procs powers front = record { slaves = []; procs = front; powers = powers; 
 -- the power node at a place, as lines name it
 pub record IsParent (powers : List PowerDef) (place : ℕ) (node : NodeId) : Type 0 where
   pub number : power_at powers place ≡ Some node.0
-  pub found : place_of node powers ≡ Some place
+  pub found : power_place powers node.0 ≡ Some place
 
 pub parent_of : (powers : List PowerDef) (place : ℕ) → AreDistinct (λ (p : PowerDef). p.node.0) powers → place < length powers → (node : NodeId) × IsParent powers place node
 parent_of powers place distinct within =
     let q = in_front powers [] powers place (append-nil powers) within in
     (q.0.node, record { number = rw q.1 refl; found = placed_at powers place q.0 distinct q.1 })
 
-pub takes_proc : (powers : List PowerDef) (front : List ProcDef) (p : ProcDef) (node : NodeId) → place_of node powers ≡ Some p.parent → taken (Proc (record { node = p.node; parent = node; figure = p.figure; latency = p.latency })) (with_procs powers front) ≡ Ok (with_procs powers (front ++ p ∷ []))
+pub takes_proc : (powers : List PowerDef) (front : List ProcDef) (p : ProcDef) (node : NodeId) → power_place powers node.0 ≡ Some p.parent → taken (Proc (record { node = p.node; parent = node; figure = p.figure; latency = p.latency })) (with_procs powers front) ≡ Ok (with_procs powers (front ++ p ∷ []))
 unfolding taken
 takes_proc powers front p node place = rw place refl
 
@@ -132,7 +133,7 @@ with_slaves powers procs front = record { slaves = front; procs = procs; powers 
 abbrev pub with_states : SlaveDef → List SlaveState → SlaveDef
 with_states s states = record { node = s.node; parent = s.parent; states = states }
 
-pub takes_slave : (powers : List PowerDef) (procs : List ProcDef) (front : List SlaveDef) (s : SlaveDef) (node : NodeId) → place_of node powers ≡ Some s.parent → taken (Slave (record { node = s.node; parent = node })) (with_slaves powers procs front) ≡ Ok (with_slaves powers procs (front ++ with_states s [] ∷ []))
+pub takes_slave : (powers : List PowerDef) (procs : List ProcDef) (front : List SlaveDef) (s : SlaveDef) (node : NodeId) → power_place powers node.0 ≡ Some s.parent → taken (Slave (record { node = s.node; parent = node })) (with_slaves powers procs front) ≡ Ok (with_slaves powers procs (front ++ with_states s [] ∷ []))
 unfolding taken
 takes_slave powers procs front s node place = rw place refl
 

@@ -3,9 +3,8 @@ use Rattle.std.proofs.Common.{◌≡◌, ℕ, zero, suc, ◌+◌, ◌≤◌, Lis
 use Rattle.std.specs.Option.{option_map}
 use Rattle.std.proofs.lemmas.List.{drop_all, append-nil}
 use Rattle.pm_base.proofs.ListLemmas.{drop_found}
-use Rattle.pm_io.specs.Numbers.{numbers_in}
+use Rattle.pm_io.specs.Numbers.{greatest_number, numbers_in}
 use Rattle.pm_topofile.specs.Reading.{number}
-use Rattle.pm_topofile.specs.Table.{greatest}
 
 -- numbers before others
 abbrev pub with_front : List ℕ → Option (List ℕ) → Option (List ℕ)
@@ -16,17 +15,17 @@ with_front-first : (front : List ℕ) (n : ℕ) (read : Option (List ℕ)) → w
 with_front-first front n None = refl
 with_front-first front n (Some ns) = ap Some (sym (append_assoc front (n ∷ []) ns))
 
-module _ (texts : List (List ℕ)) (k : ℕ) (front : List ℕ) (whole : Option (List ℕ)) (so_far : with_front front (numbers_in greatest (drop k texts)) ≡ whole) where
+module _ (texts : List (List ℕ)) (k : ℕ) (front : List ℕ) (whole : Option (List ℕ)) (so_far : with_front front (numbers_in greatest_number (drop k texts)) ≡ whole) where
   -- one more number
-  pub numbers_more : (word : List ℕ) (n : ℕ) → slice_get texts k ≡ Some word → number greatest word ≡ Some n → with_front (front ++ n ∷ []) (numbers_in greatest (drop (k + 1) texts)) ≡ whole
+  pub numbers_more : (word : List ℕ) (n : ℕ) → slice_get texts k ≡ Some word → number greatest_number word ≡ Some n → with_front (front ++ n ∷ []) (numbers_in greatest_number (drop (k + 1) texts)) ≡ whole
   numbers_more word n is read =
-      let first : numbers_in greatest (drop k texts) ≡ option_map (λ (ns : List ℕ). n ∷ ns) (numbers_in greatest (drop (k + 1) texts)) = rw (drop_found texts k word is, read) refl in
-      sym (with_front-first front n (numbers_in greatest (drop (k + 1) texts))) ∙ ap (with_front front) (sym first) ∙ so_far
+      let first : numbers_in greatest_number (drop k texts) ≡ option_map (λ (ns : List ℕ). n ∷ ns) (numbers_in greatest_number (drop (k + 1) texts)) = rw (drop_found texts k word is, read) refl in
+      sym (with_front-first front n (numbers_in greatest_number (drop (k + 1) texts))) ∙ ap (with_front front) (sym first) ∙ so_far
 
   -- a word that is none
-  pub numbers_bad : (word : List ℕ) → slice_get texts k ≡ Some word → number greatest word ≡ None → whole ≡ None
+  pub numbers_bad : (word : List ℕ) → slice_get texts k ≡ Some word → number greatest_number word ≡ None → whole ≡ None
   numbers_bad word is read =
-      let first : numbers_in greatest (drop k texts) ≡ None = rw (drop_found texts k word is, read) refl in
+      let first : numbers_in greatest_number (drop k texts) ≡ None = rw (drop_found texts k word is, read) refl in
       sym so_far ∙ ap (with_front front) first
 
   -- no further word

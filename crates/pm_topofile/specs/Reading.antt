@@ -2,31 +2,29 @@
 use Rattle.std.specs.Prelude.{ℕ, Bool, ◌==◌, ◌&&◌, nat_le, if◌then◌else◌, List, [], ◌∷◌, length, drop, find, slice_get, Option, Some, None, option_and_then}
 use Rattle.std.specs.Option.{option_map}
 use Rattle.std.specs.Str.{bytes_eq}
+use Rattle.pm_base.specs.Names.{numbered_node}
 use Rattle.pm_io.specs.Lines.{is_readable}
 use Rattle.pm_io.specs.Words.{word_texts}
-use Rattle.pm_io.specs.Numbers.{number_of, numbers_in, at_most}
+use Rattle.pm_io.specs.Numbers.{number_of, numbers_in, at_most, greatest_number}
 use Rattle.pm_base.specs.declared.names.NodeId.{NodeId}
 use Rattle.pm_topofile.specs.declared.table.Keyword.{Keyword}
 use Rattle.pm_topofile.specs.declared.table.Keyword.TheVariants as keywords
 use Rattle.pm_topofile.specs.declared.item.Item.{Item}
 use Rattle.pm_topofile.specs.declared.item.Item.TheVariants.{Empty, Power, Proc, Slave, State, Line, Owner}
-use Rattle.pm_topofile.specs.Table.{all_keywords, keyword_text, least_words, most_words, greatest, greatest_flag, greatest_caps, none_text}
+use Rattle.pm_topofile.specs.Table.{all_keywords, keyword_text, least_words, most_words, greatest_flag, greatest_caps, none_text}
 
 -- ---- words and numbers
 
--- a number that is at most the greatest one
+-- a number that is at most the greatest_number one
 abbrev pub number : ℕ → List ℕ → Option ℕ
 number most word = at_most most (number_of word)
 
 abbrev pub number_at : ℕ → List (List ℕ) → ℕ → Option ℕ
 number_at most words k = option_and_then (number most) (slice_get words k)
 
-abbrev pub node : ℕ → NodeId
-node number = record { 0 = number }
-
 -- a node by its number
 abbrev pub node_in : List ℕ → Option NodeId
-node_in word = option_map node (number greatest word)
+node_in word = option_map numbered_node (number greatest_number word)
 
 abbrev pub node_at : List (List ℕ) → ℕ → Option NodeId
 node_at words k = option_and_then node_in (slice_get words k)
@@ -69,12 +67,12 @@ owner_with _ _ = None
 
 -- a keyword with the words after it
 abbrev pub form_item : Keyword → List (List ℕ) → Option Item
-form_item keywords.Power words = power_with (node_at words 1) (optional_at words 2) (flag_at words 3) (number_at greatest words 4) (number_at greatest words 5)
-form_item keywords.Proc words = proc_with (node_at words 1) (node_at words 2) (number_at greatest words 3) (number_at greatest words 4)
+form_item keywords.Power words = power_with (node_at words 1) (optional_at words 2) (flag_at words 3) (number_at greatest_number words 4) (number_at greatest_number words 5)
+form_item keywords.Proc words = proc_with (node_at words 1) (node_at words 2) (number_at greatest_number words 3) (number_at greatest_number words 4)
 form_item keywords.Slave words = slave_with (node_at words 1) (node_at words 2)
-form_item keywords.State words = state_with (number_at greatest_caps words 1) (number_at greatest words 2) (flag_at words 3) (number_at greatest words 4)
-form_item keywords.Line words = line_with (number_at greatest words 1) (optional_at words 2)
-form_item keywords.Owner words = owner_with (node_at words 1) (numbers_in greatest (drop 2 words))
+form_item keywords.State words = state_with (number_at greatest_caps words 1) (number_at greatest_number words 2) (flag_at words 3) (number_at greatest_number words 4)
+form_item keywords.Line words = line_with (number_at greatest_number words 1) (optional_at words 2)
+form_item keywords.Owner words = owner_with (node_at words 1) (numbers_in greatest_number (drop 2 words))
 
 abbrev pub keyword_of : List ℕ → Option Keyword
 keyword_of word = find (λ k. bytes_eq (keyword_text k) word) all_keywords

@@ -28,10 +28,7 @@ abbrev pub most_words : Keyword → ℕ
 most_words keywords.Owner = 18
 most_words keyword = least_words keyword
 
--- the greatest number of a word, of one that is 0 or 1, and of a set of capabilities
-abbrev pub greatest : ℕ
-greatest = 4294967295
-
+-- the greatest number of a word that is 0 or 1, and of a set of capabilities
 abbrev pub greatest_flag : ℕ
 greatest_flag = 1
 

@@ -1,6 +1,7 @@
 -- A topology with what one more line says, or why that line is wrong.
-use Rattle.std.specs.Prelude.{ℕ, Bool, true, not, ◌==◌, ◌&&◌, if◌then◌else◌, List, [], ◌∷◌, ◌++◌, length, map, position, Option, Some, None, Result, Ok, Err}
+use Rattle.std.specs.Prelude.{ℕ, Bool, true, not, ◌==◌, ◌&&◌, if◌then◌else◌, List, [], ◌∷◌, ◌++◌, length, map, Option, Some, None, Result, Ok, Err}
 use Rattle.std.specs.Option.{option_map}
+use Rattle.pm_topology.specs.Places.{power_place}
 use Rattle.pm_base.specs.declared.names.NodeId.{NodeId}
 use Rattle.pm_topology.specs.declared.topology.SlaveState.{SlaveState}
 use Rattle.pm_topology.specs.declared.topology.SlaveDef.{SlaveDef}
@@ -45,14 +46,10 @@ stands (Owner node procs) t = true
 
 -- ---- parents
 
--- the place of the power node of a number
-abbrev pub place_of : NodeId → List PowerDef → Option ℕ
-place_of node powers = position (λ p. p.node.0 == node.0) powers
-
 -- a power node's parent: none, or the place of an earlier power node; None where there is no such
 abbrev pub optional_place : Option NodeId → List PowerDef → Option (Option ℕ)
 optional_place None powers = Some None
-optional_place (Some node) powers = option_map Some (place_of node powers)
+optional_place (Some node) powers = option_map Some (power_place powers node.0)
 
 -- what is made of a parent, which must be there
 abbrev pub under : {P : Type 0} → Option P → (P → Topology) → Result Topology TopoTextCause
@@ -90,8 +87,8 @@ with_slave s t parent = record t { slaves = t.slaves ++ record { node = s.node; 
 abbrev pub placed : Item → Topology → Result Topology TopoTextCause
 placed Empty t = Ok t
 placed (Power p) t = under (optional_place p.parent t.powers) (with_power p t)
-placed (Proc p) t = under (place_of p.parent t.powers) (with_proc p t)
-placed (Slave s) t = under (place_of s.parent t.powers) (with_slave s t)
+placed (Proc p) t = under (power_place t.powers p.parent.0) (with_proc p t)
+placed (Slave s) t = under (power_place t.powers s.parent.0) (with_slave s t)
 placed (State s) t = Ok (record t { slaves = with_state s t.slaves })
 placed (Line l) t = Ok (record t { lines = t.lines ++ l ∷ [] })
 placed (Owner node procs) t = Ok (record t { masters = with_members node (map (λ n. record { 0 = n }) procs.items) t.masters })

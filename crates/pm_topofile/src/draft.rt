@@ -5,7 +5,8 @@ ghost use Rattle.pm_topofile.specs.Answers.{GivesInto};
 ghost use Rattle.pm_topofile.specs.Draft.{so_far};
 ghost use Rattle.pm_topofile.specs.Meaning.{at_line, line_taken};
 ghost use Rattle.pm_topofile.specs.declared.item.Item.TheVariants.{Power, Proc, Slave};
-ghost use Rattle.pm_topofile.specs.Taking.{nothing, before_masters, before_lines, before_slaves, before_procs, stands, place_of, optional_place, placed, taken};
+ghost use Rattle.pm_topology.specs.Places.{power_place};
+ghost use Rattle.pm_topofile.specs.Taking.{nothing, before_masters, before_lines, before_slaves, before_procs, stands, optional_place, placed, taken};
 ghost use Rattle.pm_topofile.specs.declared.fault.TopologyError.TheVariants.{Bad};
 
 use crate::fault::{TopoTextCause, TopoTextFault, TopologyError};
@@ -88,7 +89,7 @@ impl Draft {
 
     /// The place of the power node of a number.
     fn place_of(&self, node: NodeId) -> Option<usize>
-        ensures { result ≡ place_of node self.now.powers }
+        ensures { result ≡ power_place self.now.powers node.0 }
     {
         self.powers
             .as_slice()

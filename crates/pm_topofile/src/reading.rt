@@ -2,10 +2,10 @@
 
 ghost use Rattle.std.specs.Prelude.{◌≡◌, ◌≤◌, length, drop};
 ghost use Rattle.std.specs.Option.{option_map};
-ghost use Rattle.pm_io.specs.Numbers.{numbers_in};
+ghost use Rattle.pm_io.specs.Numbers.{greatest_number, numbers_in};
 ghost use Rattle.pm_io.specs.Words.{word_texts};
 ghost use Rattle.pm_topofile.specs.Reading.{number, number_at, node_in, node_at, optional_in, optional_at, flag_at, power_with, proc_with, slave_with, state_with, line_with, owner_with, form_item, keyword_of, has_count, keyword_item, item_of};
-ghost use Rattle.pm_topofile.specs.Table.{greatest, greatest_caps};
+ghost use Rattle.pm_topofile.specs.Table.{greatest_caps};
 
 use crate::item::{Item, Members, PowerLine, ProcLine, SlaveLine};
 use crate::table::{
@@ -71,7 +71,7 @@ fn flag_at(line: &[u8], k: usize) -> Option<bool>
 /// The words after the first two as numbers.
 fn members_after(line: &[u8]) -> Option<Members>
     requires { length (word_texts line.now) ≤ 18 }
-    ensures { option_map (λ members. members.items) result ≡ numbers_in greatest (drop 2 (word_texts line.now)) }
+    ensures { option_map (λ members. members.items) result ≡ numbers_in greatest_number (drop 2 (word_texts line.now)) }
 {
     let mut members = Members::new();
     let mut k = 2;
@@ -86,7 +86,7 @@ fn members_after(line: &[u8]) -> Option<Members>
 fn power_of(line: &[u8]) -> Option<Item>
     ensures { let words = word_texts line.now in
         result ≡ power_with (node_at words 1) (optional_at words 2) (flag_at words 3)
-        (number_at greatest words 4) (number_at greatest words 5) }
+        (number_at greatest_number words 4) (number_at greatest_number words 5) }
 {
     Some(Item::Power(PowerLine {
         node: node_at(line, 1)?,
@@ -100,8 +100,8 @@ fn power_of(line: &[u8]) -> Option<Item>
 /// The processor of a line: node, parent, figure, latency.
 fn proc_of(line: &[u8]) -> Option<Item>
     ensures { let words = word_texts line.now in
-        result ≡ proc_with (node_at words 1) (node_at words 2) (number_at greatest words 3)
-        (number_at greatest words 4) }
+        result ≡ proc_with (node_at words 1) (node_at words 2) (number_at greatest_number words 3)
+        (number_at greatest_number words 4) }
 {
     Some(Item::Proc(ProcLine {
         node: node_at(line, 1)?,
@@ -124,8 +124,8 @@ fn slave_of(line: &[u8]) -> Option<Item>
 /// The state of a line: capabilities, latency, whether it needs power, figure.
 fn state_of(line: &[u8]) -> Option<Item>
     ensures { let words = word_texts line.now in
-        result ≡ state_with (number_at greatest_caps words 1) (number_at greatest words 2) (flag_at words 3)
-        (number_at greatest words 4) }
+        result ≡ state_with (number_at greatest_caps words 1) (number_at greatest_number words 2) (flag_at words 3)
+        (number_at greatest_number words 4) }
 {
     Some(Item::State(SlaveState {
         caps: Caps(number_at(line, 1, GREATEST_CAPS)?),
@@ -137,7 +137,7 @@ fn state_of(line: &[u8]) -> Option<Item>
 
 /// The reset line of a line: its number, the target or `none`.
 fn line_of(line: &[u8]) -> Option<Item>
-    ensures { let words = word_texts line.now in result ≡ line_with (number_at greatest words 1) (optional_at words 2) }
+    ensures { let words = word_texts line.now in result ≡ line_with (number_at greatest_number words 1) (optional_at words 2) }
 {
     Some(Item::Line(LineDef {
         line: LineId(number_at(line, 1, GREATEST)?),
@@ -148,7 +148,7 @@ fn line_of(line: &[u8]) -> Option<Item>
 /// The master of a line with its processors.
 fn owner_of(line: &[u8]) -> Option<Item>
     requires { length (word_texts line.now) ≤ 18 }
-    ensures { let words = word_texts line.now in result ≡ owner_with (node_at words 1) (numbers_in greatest (drop 2 words)) }
+    ensures { let words = word_texts line.now in result ≡ owner_with (node_at words 1) (numbers_in greatest_number (drop 2 words)) }
 {
     Some(Item::Owner(node_at(line, 1)?, members_after(line)?))
 }

@@ -6,7 +6,8 @@ use Rattle.std.proofs.lemmas.Option.{slice_get_cases}
 use Rattle.pm_base.proofs.Booleans.{neither, none_of, differs, unequal, equal}
 use Rattle.pm_base.proofs.Tests.{absent_at, absent_from, present_at, present_from}
 use Rattle.pm_topology.specs.declared.faults.TopoCause.{TopoCause}
-use Rattle.pm_topology.specs.FirstFault.{first_at, fault_at, or_later}
+use Rattle.std.specs.Option.{option_or}
+use Rattle.pm_topology.specs.FirstFault.{fault_at, first_fault_from}
 use Rattle.pm_topology.specs.WellFormed.{EachEntry, HasNumber, AreDistinct, AreApart}
 
 -- a rule that isn't broken leaves it to the next ones
@@ -40,11 +41,11 @@ absent_before-from p (y ∷ ys) (suc n) each =
     none_of (p y) _ (each zero y (omega arith) refl) (absent_before-from p ys n (λ k x within here. each (suc k) x (omega arith) here))
 
 -- neither of two is there
-pub neither_there : {X : Type 0} (a b : Option X) → or_later a b ≡ None → (a ≡ None) × (b ≡ None)
+pub neither_there : {X : Type 0} (a b : Option X) → option_or a b ≡ None → (a ≡ None) × (b ≡ None)
 neither_there None b e = (refl, e)
 neither_there (Some x) b e = cc
 
-pub none_there : {X : Type 0} (a b : Option X) → a ≡ None → b ≡ None → or_later a b ≡ None
+pub none_there : {X : Type 0} (a b : Option X) → a ≡ None → b ≡ None → option_or a b ≡ None
 none_there None b e f = f
 none_there (Some x) b e f = cc
 
@@ -58,7 +59,7 @@ faultless place (Some cause) e = cc
 
 -- where no entry has a fault, none has a cause at its place
 pub faultless_at : {X : Type 0} (cause_of : ℕ → X → Option TopoCause) (place : ℕ) (xs : List X)
-    → first_at cause_of place xs ≡ None
+    → first_fault_from cause_of place xs ≡ None
     → (k : ℕ) (x : X) (at : ℕ) → slice_get xs k ≡ Some x → at ≡ place + k → cause_of at x ≡ None
 faultless_at cause_of place [] e k x at here is = cc
 faultless_at {X} cause_of place (y ∷ ys) e zero x at here is =
@@ -72,7 +73,7 @@ faultless_at cause_of place (y ∷ ys) e (suc k) x at here is =
 
 pub faultless_from : {X : Type 0} (cause_of : ℕ → X → Option TopoCause) (place : ℕ) (xs : List X)
     → ((k : ℕ) (x : X) (at : ℕ) → slice_get xs k ≡ Some x → at ≡ place + k → cause_of at x ≡ None)
-    → first_at cause_of place xs ≡ None
+    → first_fault_from cause_of place xs ≡ None
 faultless_from cause_of place [] each = refl
 faultless_from cause_of place (y ∷ ys) each =
     none_there (fault_at place (cause_of place y)) _

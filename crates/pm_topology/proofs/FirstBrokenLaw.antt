@@ -7,8 +7,9 @@ use Rattle.pm_topology.specs.declared.topology.Topology.{Topology}
 use Rattle.pm_topology.specs.declared.faults.TopoCause.{TopoCause}
 use Rattle.pm_topology.specs.declared.faults.TopoCause.TheVariants.{Repeated, ParentLate, NoStates, LastNotFull, TooMany, BadTarget, BadMember, NoMaster, Overlap}
 use Rattle.pm_topology.specs.declared.faults.TopoFault.{TopoFault}
-use Rattle.pm_topology.specs.FirstFault.{or_later, fault_at, first_at, first_fault, power_cause, proc_cause, slave_cause, line_cause, master_cause, missing_master, has_all_masters}
-use Rattle.pm_topology.specs.Masters.{master_numbers}
+use Rattle.std.specs.Option.{option_or}
+use Rattle.pm_topology.specs.FirstFault.{fault_at, first_fault, power_cause, proc_cause, slave_cause, line_cause, master_cause, missing_master, has_all_masters, first_fault_from}
+use Rattle.pm_base.specs.Masters.{master_numbers}
 use Rattle.pm_topology.specs.Rules.{Entries, Powers, Procs, Slaves, Lines, Masters, list_turn, rule_turn, PowerObeys, ProcObeys, SlaveObeys, LineObeys, MasterObeys, NoneIsMissing, AfterMasters, Obeys, IsFirstBroken}
 use Rattle.pm_topology.proofs.Entries.{faultless_at, number_from}
 use Rattle.pm_topology.proofs.Causes.{all_from}
@@ -49,14 +50,14 @@ none_before {X} cause_of place x xs f none found zero y there less here at =
 none_before cause_of place x xs f none found (suc k) y there less here at = found.before k y there less here (omega arith)
 
 found_at : {X : Type 0} (cause_of : ℕ → X → Option TopoCause) (place : ℕ) (xs : List X) (f : TopoFault)
-    → first_at cause_of place xs ≡ Some f → FoundAt cause_of place xs f
+    → first_fault_from cause_of place xs ≡ Some f → FoundAt cause_of place xs f
 found_at cause_of place [] f e = absurd cc
 found_at cause_of place (x ∷ xs) f e =
     found_from cause_of place x xs f (cause_of place x) refl e (λ later. found_at cause_of (place + 1) xs f later)
   where
     found_from : {X : Type 0} (cause_of : ℕ → X → Option TopoCause) (place : ℕ) (x : X) (xs : List X) (f : TopoFault) (cause : Option TopoCause)
-        → cause_of place x ≡ cause → or_later (fault_at place cause) (first_at cause_of (place + 1) xs) ≡ Some f
-        → (first_at cause_of (place + 1) xs ≡ Some f → FoundAt cause_of (place + 1) xs f)
+        → cause_of place x ≡ cause → option_or (fault_at place cause) (first_fault_from cause_of (place + 1) xs) ≡ Some f
+        → (first_fault_from cause_of (place + 1) xs ≡ Some f → FoundAt cause_of (place + 1) xs f)
         → FoundAt cause_of place (x ∷ xs) f
     found_from cause_of place x xs f (Some cause) is e rest = first_here cause_of place x xs f cause is e
     found_from cause_of place x xs f None is e rest =
@@ -98,7 +99,7 @@ few_turns Overlap = omega arith
 first_of : {X : Type 0} (Rule : TopoCause → ℕ → X → Type 0) (cause_of : ℕ → X → Option TopoCause)
     → ((k : ℕ) (x : X) (answer : Option TopoCause) → cause_of k x ≡ answer → (c : TopoCause) → rule_turn c < turn_of answer → Rule c k x)
     → ((k : ℕ) (x : X) (cause : TopoCause) → cause_of k x ≡ Some cause → IsFirstRule (λ c. Rule c k x) cause)
-    → (xs : List X) (f : TopoFault) → first_at cause_of 0 xs ≡ Some f → IsFirstOf Rule xs f
+    → (xs : List X) (f : TopoFault) → first_fault_from cause_of 0 xs ≡ Some f → IsFirstOf Rule xs f
 first_of {X} Rule cause_of keeps first xs f e =
     let found = found_at cause_of 0 xs f e in
     let here : slice_get xs f.place ≡ Some found.entry = subst (λ n. slice_get xs n ≡ Some found.entry) (let at = found.is in omega arith) found.here in
@@ -112,14 +113,14 @@ first_of {X} Rule cause_of keeps first xs f e =
 -- a list without a fault keeps each rule
 keep_all : {X : Type 0} (Rule : TopoCause → ℕ → X → Type 0) (cause_of : ℕ → X → Option TopoCause)
     → ((k : ℕ) (x : X) (answer : Option TopoCause) → cause_of k x ≡ answer → (c : TopoCause) → rule_turn c < turn_of answer → Rule c k x)
-    → (xs : List X) → first_at cause_of 0 xs ≡ None
+    → (xs : List X) → first_fault_from cause_of 0 xs ≡ None
     → (k : ℕ) (cause : TopoCause) → IfSome (slice_get xs k) (Rule cause k)
 keep_all Rule cause_of keeps xs none k cause =
     of_some (slice_get xs k) (Rule cause k) (λ x here. keeps k x None (faultless_at cause_of 0 xs none k x k here (omega arith)) cause (few_turns cause))
 
 -- ---- the lists one after the other
 
-which : {X : Type 0} (a b : Option X) (x : X) → or_later a b ≡ Some x → (a ≡ Some x) ⊎ ((a ≡ None) × (b ≡ Some x))
+which : {X : Type 0} (a b : Option X) (x : X) → option_or a b ≡ Some x → (a ≡ Some x) ⊎ ((a ≡ None) × (b ≡ Some x))
 which None b x e = inr (refl, e)
 which (Some y) b x e = inl e
 
@@ -191,24 +192,24 @@ none_earlier t earlier less k cause = absurd (omega arith)
 
 -- what the lists before one keep
 record AreKept (t : Topology) : Type 0 where
-  pub powers : first_at (power_cause t) 0 t.powers ≡ None
-  pub procs : first_at (proc_cause t) 0 t.procs ≡ None
-  pub slaves : first_at (slave_cause t) 0 t.slaves ≡ None
-  pub lines : first_at (line_cause t) 0 t.lines ≡ None
+  pub powers : first_fault_from (power_cause t) 0 t.powers ≡ None
+  pub procs : first_fault_from (proc_cause t) 0 t.procs ≡ None
+  pub slaves : first_fault_from (slave_cause t) 0 t.slaves ≡ None
+  pub lines : first_fault_from (line_cause t) 0 t.lines ≡ None
 
-kept_powers : (t : Topology) → first_at (power_cause t) 0 t.powers ≡ None → (k : ℕ) (cause : TopoCause) → Obeys t Powers cause k
+kept_powers : (t : Topology) → first_fault_from (power_cause t) 0 t.powers ≡ None → (k : ℕ) (cause : TopoCause) → Obeys t Powers cause k
 kept_powers t none = keep_all (PowerObeys t) (power_cause t) (λ k p answer e c less. power_rules t k p answer e c less) t.powers none
 
-kept_procs : (t : Topology) → first_at (proc_cause t) 0 t.procs ≡ None → (k : ℕ) (cause : TopoCause) → Obeys t Procs cause k
+kept_procs : (t : Topology) → first_fault_from (proc_cause t) 0 t.procs ≡ None → (k : ℕ) (cause : TopoCause) → Obeys t Procs cause k
 kept_procs t none = keep_all (ProcObeys t) (proc_cause t) (λ k p answer e c less. proc_rules t k p answer e c less) t.procs none
 
-kept_slaves : (t : Topology) → first_at (slave_cause t) 0 t.slaves ≡ None → (k : ℕ) (cause : TopoCause) → Obeys t Slaves cause k
+kept_slaves : (t : Topology) → first_fault_from (slave_cause t) 0 t.slaves ≡ None → (k : ℕ) (cause : TopoCause) → Obeys t Slaves cause k
 kept_slaves t none = keep_all (SlaveObeys t) (slave_cause t) (λ k s answer e c less. slave_rules t k s answer e c less) t.slaves none
 
-kept_lines : (t : Topology) → first_at (line_cause t) 0 t.lines ≡ None → (k : ℕ) (cause : TopoCause) → Obeys t Lines cause k
+kept_lines : (t : Topology) → first_fault_from (line_cause t) 0 t.lines ≡ None → (k : ℕ) (cause : TopoCause) → Obeys t Lines cause k
 kept_lines t none = keep_all (LineObeys t) (line_cause t) (λ k l answer e c less. line_rules t k l answer e c less) t.lines none
 
-before_procs : (t : Topology) → first_at (power_cause t) 0 t.powers ≡ None
+before_procs : (t : Topology) → first_fault_from (power_cause t) 0 t.powers ≡ None
     → (earlier : Entries) → list_turn earlier < 1 → (k : ℕ) (cause : TopoCause) → Obeys t earlier cause k
 before_procs t powers Powers less = kept_powers t powers
 before_procs t powers Procs less = absurd (omega arith)
@@ -216,7 +217,7 @@ before_procs t powers Slaves less = absurd (omega arith)
 before_procs t powers Lines less = absurd (omega arith)
 before_procs t powers Masters less = absurd (omega arith)
 
-before_slaves : (t : Topology) → first_at (power_cause t) 0 t.powers ≡ None → first_at (proc_cause t) 0 t.procs ≡ None
+before_slaves : (t : Topology) → first_fault_from (power_cause t) 0 t.powers ≡ None → first_fault_from (proc_cause t) 0 t.procs ≡ None
     → (earlier : Entries) → list_turn earlier < 2 → (k : ℕ) (cause : TopoCause) → Obeys t earlier cause k
 before_slaves t powers procs Powers less = kept_powers t powers
 before_slaves t powers procs Procs less = kept_procs t procs
@@ -224,7 +225,7 @@ before_slaves t powers procs Slaves less = absurd (omega arith)
 before_slaves t powers procs Lines less = absurd (omega arith)
 before_slaves t powers procs Masters less = absurd (omega arith)
 
-before_lines : (t : Topology) → first_at (power_cause t) 0 t.powers ≡ None → first_at (proc_cause t) 0 t.procs ≡ None → first_at (slave_cause t) 0 t.slaves ≡ None
+before_lines : (t : Topology) → first_fault_from (power_cause t) 0 t.powers ≡ None → first_fault_from (proc_cause t) 0 t.procs ≡ None → first_fault_from (slave_cause t) 0 t.slaves ≡ None
     → (earlier : Entries) → list_turn earlier < 3 → (k : ℕ) (cause : TopoCause) → Obeys t earlier cause k
 before_lines t powers procs slaves Powers less = kept_powers t powers
 before_lines t powers procs slaves Procs less = kept_procs t procs
@@ -241,7 +242,7 @@ before_masters t kept Lines less = kept_lines t kept.lines
 before_masters t kept Masters less = absurd (omega arith)
 
 -- the fault of an entry stands within its list
-within_list : {X : Type 0} (cause_of : ℕ → X → Option TopoCause) (xs : List X) (f : TopoFault) → first_at cause_of 0 xs ≡ Some f → f.place < length xs
+within_list : {X : Type 0} (cause_of : ℕ → X → Option TopoCause) (xs : List X) (f : TopoFault) → first_fault_from cause_of 0 xs ≡ Some f → f.place < length xs
 within_list cause_of xs f e =
     let found = found_at cause_of 0 xs f e in
     let within = slice_get_within xs found.at found.entry found.here in
@@ -249,7 +250,7 @@ within_list cause_of xs f e =
     omega arith
 
 among_masters : (t : Topology) (f : TopoFault) → AreKept t
-    → (first_at (master_cause t) 0 t.masters ≡ Some f) ⊎ ((first_at (master_cause t) 0 t.masters ≡ None) × (missing_master t.masters ≡ Some f))
+    → (first_fault_from (master_cause t) 0 t.masters ≡ Some f) ⊎ ((first_fault_from (master_cause t) 0 t.masters ≡ None) × (missing_master t.masters ≡ Some f))
     → IsFirstBroken t f
 among_masters t f kept (inl e) =
     of_masters t f (first_of (MasterObeys t) (master_cause t) (λ k m answer e c less. master_rules t k m answer e c less) (λ k m cause e. master_first t k m cause e) t.masters f e)
@@ -261,25 +262,25 @@ among_masters t f kept (inr e) =
 
 pub first_is_broken : (t : Topology) (f : TopoFault) → first_fault t ≡ Some f → IsFirstBroken t f
 first_is_broken t f e =
-    elim (which (first_at (power_cause t) 0 t.powers) _ f e) [
+    elim (which (first_fault_from (power_cause t) 0 t.powers) _ f e) [
       | inl here ↦
           let first = first_of (PowerObeys t) (power_cause t) (λ k p answer e c less. power_rules t k p answer e c less) (λ k p cause e. power_first t k p cause e) t.powers f here in
           record { entries = Powers; broken = first.broken; rules = first.rules; before = first.before; lists = none_earlier t }
-      | inr powers ↦ elim (which (first_at (proc_cause t) 0 t.procs) _ f powers.1) [
+      | inr powers ↦ elim (which (first_fault_from (proc_cause t) 0 t.procs) _ f powers.1) [
         | inl here ↦
             let first = first_of (ProcObeys t) (proc_cause t) (λ k p answer e c less. proc_rules t k p answer e c less) (λ k p cause e. proc_first t k p cause e) t.procs f here in
             record { entries = Procs; broken = first.broken; rules = first.rules; before = first.before; lists = before_procs t powers.0 }
-        | inr procs ↦ elim (which (first_at (slave_cause t) 0 t.slaves) _ f procs.1) [
+        | inr procs ↦ elim (which (first_fault_from (slave_cause t) 0 t.slaves) _ f procs.1) [
           | inl here ↦
               let first = first_of (SlaveObeys t) (slave_cause t) (λ k s answer e c less. slave_rules t k s answer e c less) (λ k s cause e. slave_first t k s cause e) t.slaves f here in
               record { entries = Slaves; broken = first.broken; rules = first.rules; before = first.before; lists = before_slaves t powers.0 procs.0 }
-          | inr slaves ↦ elim (which (first_at (line_cause t) 0 t.lines) _ f slaves.1) [
+          | inr slaves ↦ elim (which (first_fault_from (line_cause t) 0 t.lines) _ f slaves.1) [
             | inl here ↦
                 let first = first_of (LineObeys t) (line_cause t) (λ k l answer e c less. line_rules t k l answer e c less) (λ k l cause e. line_first t k l cause e) t.lines f here in
                 record { entries = Lines; broken = first.broken; rules = first.rules; before = first.before; lists = before_lines t powers.0 procs.0 slaves.0 }
             | inr lines ↦
                 among_masters t f (record { powers = powers.0; procs = procs.0; slaves = slaves.0; lines = lines.0 })
-                (which (first_at (master_cause t) 0 t.masters) (missing_master t.masters) f lines.1)
+                (which (first_fault_from (master_cause t) 0 t.masters) (missing_master t.masters) f lines.1)
           ]
         ]
       ]

@@ -11,7 +11,8 @@ use Rattle.pm_topology.specs.declared.topology.Topology.{Topology}
 use Rattle.pm_topology.specs.declared.faults.TopoCause.TheVariants.{Repeated, TooMany, BadMember, Overlap}
 use Rattle.pm_topology.specs.declared.faults.TopoFault.{TopoFault}
 use Rattle.pm_topology.specs.FirstFault.{has_proc, is_bad_member, has_bad_members, overlap, master_cause, has_all_masters, missing_master}
-use Rattle.pm_topology.specs.Masters.{master_numbers, is_master_number, is_half_of, may_have, has_twice, share, may_share}
+use Rattle.pm_base.specs.Masters.{is_half_of, is_master_number, master_numbers}
+use Rattle.pm_topology.specs.Masters.{may_have, has_twice, share, may_share}
 use Rattle.pm_topology.specs.Rules.{HasGoodMembers}
 use Rattle.pm_topology.specs.WellFormed.{EachEntry, AreDistinct, IsProc, ObeysMasterRules}
 use Rattle.pm_topology.proofs.Entries.{pass, passed, absent_before, absent_before-from, number_at, number_from}

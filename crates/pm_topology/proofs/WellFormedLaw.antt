@@ -7,7 +7,7 @@ use Rattle.pm_topology.specs.declared.topology.LineDef.{LineDef}
 use Rattle.pm_topology.specs.declared.topology.MasterDef.{MasterDef}
 use Rattle.pm_topology.specs.declared.topology.Topology.{Topology}
 use Rattle.pm_topology.specs.declared.faults.TopoFault.{TopoFault}
-use Rattle.pm_topology.specs.FirstFault.{first_at, first_fault, power_cause, proc_cause, slave_cause, line_cause, master_cause, missing_master}
+use Rattle.pm_topology.specs.FirstFault.{first_fault, power_cause, proc_cause, slave_cause, line_cause, master_cause, missing_master, first_fault_from}
 use Rattle.pm_topology.specs.WellFormed.{EachEntry, IsWellFormed}
 use Rattle.std.proofs.lemmas.Option.{slice_get_within}
 use Rattle.pm_topology.proofs.Entries.{neither_there, none_there, faultless_at, faultless_from, distinct_from, distinct_to, apart_from, apart_to, within_limit}
@@ -25,11 +25,11 @@ record EntriesKeep (t : Topology) : Type 0 where
 
 entries_keep : (t : Topology) → first_fault t ≡ None → EntriesKeep t
 entries_keep t e =
-    let powers = neither_there (first_at (power_cause t) 0 t.powers) _ e in
-    let procs = neither_there (first_at (proc_cause t) 0 t.procs) _ powers.1 in
-    let slaves = neither_there (first_at (slave_cause t) 0 t.slaves) _ procs.1 in
-    let lines = neither_there (first_at (line_cause t) 0 t.lines) _ slaves.1 in
-    let masters = neither_there (first_at (master_cause t) 0 t.masters) (missing_master t.masters) lines.1 in
+    let powers = neither_there (first_fault_from (power_cause t) 0 t.powers) _ e in
+    let procs = neither_there (first_fault_from (proc_cause t) 0 t.procs) _ powers.1 in
+    let slaves = neither_there (first_fault_from (slave_cause t) 0 t.slaves) _ procs.1 in
+    let lines = neither_there (first_fault_from (line_cause t) 0 t.lines) _ slaves.1 in
+    let masters = neither_there (first_fault_from (master_cause t) 0 t.masters) (missing_master t.masters) lines.1 in
     record {
       powers = λ k x here. power_keeps t k x (faultless_at (power_cause t) 0 t.powers powers.0 k x k here (omega arith));
       procs = λ k x here. proc_keeps t k x (faultless_at (proc_cause t) 0 t.procs procs.0 k x k here (omega arith));
@@ -71,7 +71,7 @@ place xs k at limit x here few is = let within = slice_get_within xs k x here in
 
 pub faultless_where : (t : Topology) → IsWellFormed t → first_fault t ≡ None
 faultless_where t well =
-    none_there (first_at (power_cause t) 0 t.powers) _
+    none_there (first_fault_from (power_cause t) 0 t.powers) _
     (faultless_from (power_cause t) 0 t.powers (λ k p at here is.
     let same : k ≡ at = omega arith in
     let P : ℕ → Type 0 = λ n. slice_get t.powers n ≡ Some p in
@@ -81,7 +81,7 @@ faultless_where t well =
       new = distinct_to (λ (p : PowerDef). p.node.0) t.powers well.powers_distinct at p there;
       early = not_late at p.parent (well.power_parents at p there);
     })))
-    (none_there (first_at (proc_cause t) 0 t.procs) _
+    (none_there (first_fault_from (proc_cause t) 0 t.procs) _
     (faultless_from (proc_cause t) 0 t.procs (λ k p at here is.
     let same : k ≡ at = omega arith in
     let P : ℕ → Type 0 = λ n. slice_get t.procs n ≡ Some p in
@@ -92,7 +92,7 @@ faultless_where t well =
       new = distinct_to (λ (p : ProcDef). p.node.0) t.procs well.procs_distinct at p there;
       parent = well.proc_parents at p there;
     })))
-    (none_there (first_at (slave_cause t) 0 t.slaves) _
+    (none_there (first_fault_from (slave_cause t) 0 t.slaves) _
     (faultless_from (slave_cause t) 0 t.slaves (λ k s at here is.
     let same : k ≡ at = omega arith in
     let P : ℕ → Type 0 = λ n. slice_get t.slaves n ≡ Some s in
@@ -105,7 +105,7 @@ faultless_where t well =
       parent = well.slave_parents at s there;
       states = well.states at s there;
     })))
-    (none_there (first_at (line_cause t) 0 t.lines) _
+    (none_there (first_fault_from (line_cause t) 0 t.lines) _
     (faultless_from (line_cause t) 0 t.lines (λ k l at here is.
     let same : k ≡ at = omega arith in
     let P : ℕ → Type 0 = λ n. slice_get t.lines n ≡ Some l in
@@ -115,7 +115,7 @@ faultless_where t well =
       new = distinct_to (λ (l : LineDef). l.line.0) t.lines well.lines_distinct at l there;
       target = well.targets at l there;
     })))
-    (none_there (first_at (master_cause t) 0 t.masters) (missing_master t.masters)
+    (none_there (first_fault_from (master_cause t) 0 t.masters) (missing_master t.masters)
     (faultless_from (master_cause t) 0 t.masters (λ k m at here is.
     let same : k ≡ at = omega arith in
     let P : ℕ → Type 0 = λ n. slice_get t.masters n ≡ Some m in

@@ -3,7 +3,7 @@
 -- that is missing comes after the faults of all entries.
 use Rattle.std.specs.Prelude.{ℕ, ◌+◌, ◌-◌, ◌==◌, Bool, false, not, ◌&&◌, ◌||◌, if◌then◌else◌, nat_lt, nat_le, Option, Some, None, List, [], ◌∷◌, length, take, slice_get, bit_and}
 use Rattle.std.specs.List.{list_any, list_all}
-use Rattle.std.specs.Option.{option_map_or}
+use Rattle.std.specs.Option.{option_map_or, option_or}
 use Rattle.pm_base.specs.declared.names.NodeId.{NodeId}
 use Rattle.pm_topology.specs.declared.topology.SlaveState.{SlaveState}
 use Rattle.pm_topology.specs.declared.topology.SlaveDef.{SlaveDef}
@@ -15,12 +15,8 @@ use Rattle.pm_topology.specs.declared.topology.Topology.{Topology}
 use Rattle.pm_topology.specs.declared.faults.TopoCause.{TopoCause}
 use Rattle.pm_topology.specs.declared.faults.TopoCause.TheVariants.{Repeated, ParentLate, NoStates, LastNotFull, TooMany, BadTarget, BadMember, NoMaster, Overlap}
 use Rattle.pm_topology.specs.declared.faults.TopoFault.{TopoFault}
-use Rattle.pm_topology.specs.Masters.{master_numbers, is_master_number, may_have, has_twice, share, may_share}
-
--- the first of two that is there
-abbrev pub or_later : {X : Type 0} → Option X → Option X → Option X
-or_later None later = later
-or_later (Some x) later = Some x
+use Rattle.pm_base.specs.Masters.{is_master_number, master_numbers}
+use Rattle.pm_topology.specs.Masters.{may_have, has_twice, share, may_share}
 
 -- the fault of an entry at a place, where it has a cause
 abbrev pub fault_at : ℕ → Option TopoCause → Option TopoFault
@@ -28,9 +24,9 @@ fault_at place None = None
 fault_at place (Some cause) = Some (record { cause = cause; place = place })
 
 -- the first entry with a fault, of entries the first of which stands at a place
-abbrev pub first_at : {X : Type 0} → (ℕ → X → Option TopoCause) → ℕ → List X → Option TopoFault
-first_at cause_of place [] = None
-first_at cause_of place (x ∷ xs) = or_later (fault_at place (cause_of place x)) (first_at cause_of (place + 1) xs)
+abbrev pub first_fault_from : {X : Type 0} → (ℕ → X → Option TopoCause) → ℕ → List X → Option TopoFault
+first_fault_from cause_of place [] = None
+first_fault_from cause_of place (x ∷ xs) = option_or (fault_at place (cause_of place x)) (first_fault_from cause_of (place + 1) xs)
 
 -- whether a power node, a processor, a slave has this number
 abbrev pub has_power : ℕ → List PowerDef → Bool
@@ -124,9 +120,9 @@ missing_master masters =
 
 abbrev pub first_fault : Topology → Option TopoFault
 first_fault t =
-    or_later (first_at (power_cause t) 0 t.powers)
-    (or_later (first_at (proc_cause t) 0 t.procs)
-    (or_later (first_at (slave_cause t) 0 t.slaves)
-    (or_later (first_at (line_cause t) 0 t.lines)
-    (or_later (first_at (master_cause t) 0 t.masters)
+    option_or (first_fault_from (power_cause t) 0 t.powers)
+    (option_or (first_fault_from (proc_cause t) 0 t.procs)
+    (option_or (first_fault_from (slave_cause t) 0 t.slaves)
+    (option_or (first_fault_from (line_cause t) 0 t.lines)
+    (option_or (first_fault_from (master_cause t) 0 t.masters)
     (missing_master t.masters)))))

@@ -9,7 +9,8 @@ use Rattle.pm_topology.specs.declared.topology.Topology.{Topology}
 use Rattle.pm_topology.specs.declared.faults.TopoCause.{TopoCause}
 use Rattle.pm_topology.specs.declared.faults.TopoCause.TheVariants.{Repeated, ParentLate, NoStates, LastNotFull, TooMany, BadTarget, BadMember, NoMaster, Overlap}
 use Rattle.pm_topology.specs.declared.faults.TopoFault.{TopoFault}
-use Rattle.pm_topology.specs.Masters.{master_numbers, is_master_number, may_have, share, may_share}
+use Rattle.pm_base.specs.Masters.{is_master_number, master_numbers}
+use Rattle.pm_topology.specs.Masters.{may_have, share, may_share}
 use Rattle.pm_topology.specs.WellFormed.{EachEntry, HasNumber, AreDistinct, HasFullLast, IsProc, IsSlave}
 
 -- the lists of a topology

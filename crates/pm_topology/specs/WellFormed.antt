@@ -4,7 +4,8 @@ use Rattle.pm_base.specs.declared.names.NodeId.{NodeId}
 use Rattle.pm_topology.specs.declared.topology.MasterDef.{MasterDef}
 use Rattle.pm_topology.specs.declared.topology.SlaveState.{SlaveState}
 use Rattle.pm_topology.specs.declared.topology.Topology.{Topology}
-use Rattle.pm_topology.specs.Masters.{master_numbers, is_master_number, may_have, share, may_share}
+use Rattle.pm_base.specs.Masters.{is_master_number, master_numbers}
+use Rattle.pm_topology.specs.Masters.{may_have, share, may_share}
 
 -- this holds of each entry and its place
 abbrev pub EachEntry : {X : Type 0} → List X → (ℕ → X → Type 0) → Type 0

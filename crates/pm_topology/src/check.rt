@@ -5,15 +5,13 @@ ghost use Rattle.std.specs.List.{list_any, list_all};
 ghost use Rattle.pm_topology.specs.declared.faults.TopoFault.{TopoFault};
 ghost use Rattle.pm_topology.specs.Rules.{IsFirstBroken};
 ghost use Rattle.pm_topology.specs.WellFormed.{IsWellFormed};
-ghost use Rattle.pm_topology.specs.FirstFault.{covers, first_at, first_fault, has_bad_members, has_power, has_proc, has_slave, is_bad_member, is_bad_target, is_full, is_late, last_is_full, line_cause, master_cause, missing_master, power_cause, proc_cause, slave_cause};
+ghost use Rattle.pm_topology.specs.FirstFault.{covers, first_fault, first_fault_from, has_bad_members, has_power, has_proc, has_slave, is_bad_member, is_bad_target, is_full, is_late, last_is_full, line_cause, master_cause, missing_master, power_cause, proc_cause, slave_cause};
 
 use crate::faults::{TopoCause, TopoFault};
-use crate::masters::{
-    has_all_masters, has_master, has_twice, is_master_number, may_have, overlaps,
-};
+use crate::masters::{has_all_masters, has_master, has_twice, may_have, overlaps};
 use crate::topology::{LineDef, MasterDef, PowerDef, ProcDef, SlaveDef, SlaveState, Topology};
 use bitflags::Flags;
-use pm_base::{LineId, NodeId};
+use pm_base::{LineId, NodeId, is_master_number};
 
 /// The limits of the lists of a topology, and of the states of a slave.
 const MAX_POWERS: usize = 64;
@@ -61,7 +59,7 @@ impl Topology {
 
     /// The first power node that breaks a rule, with the first rule that it breaks.
     fn check_powers(&self) -> Result<(), TopoFault>
-        ensures { let first = first_at (power_cause self.now) 0 self.now.powers in
+        ensures { let first = first_fault_from (power_cause self.now) 0 self.now.powers in
             MatchResult result (λ _. first ≡ None) (λ fault. first ≡ Some fault) }
     {
         for (place, power) in self.powers.as_slice().iter().enumerate() {
@@ -74,7 +72,7 @@ impl Topology {
 
     /// The first processor that breaks a rule, with the first rule that it breaks.
     fn check_procs(&self) -> Result<(), TopoFault>
-        ensures { let first = first_at (proc_cause self.now) 0 self.now.procs in
+        ensures { let first = first_fault_from (proc_cause self.now) 0 self.now.procs in
             MatchResult result (λ _. first ≡ None) (λ fault. first ≡ Some fault) }
     {
         for (place, proc) in self.procs.as_slice().iter().enumerate() {
@@ -87,7 +85,7 @@ impl Topology {
 
     /// The first slave that breaks a rule, with the first rule that it breaks.
     fn check_slaves(&self) -> Result<(), TopoFault>
-        ensures { let first = first_at (slave_cause self.now) 0 self.now.slaves in
+        ensures { let first = first_fault_from (slave_cause self.now) 0 self.now.slaves in
             MatchResult result (λ _. first ≡ None) (λ fault. first ≡ Some fault) }
     {
         for (place, slave) in self.slaves.as_slice().iter().enumerate() {
@@ -100,7 +98,7 @@ impl Topology {
 
     /// The first reset line that breaks a rule, with the first rule that it breaks.
     fn check_lines(&self) -> Result<(), TopoFault>
-        ensures { let first = first_at (line_cause self.now) 0 self.now.lines in
+        ensures { let first = first_fault_from (line_cause self.now) 0 self.now.lines in
             MatchResult result (λ _. first ≡ None) (λ fault. first ≡ Some fault) }
     {
         for (place, line) in self.lines.as_slice().iter().enumerate() {
@@ -113,7 +111,7 @@ impl Topology {
 
     /// The first master that breaks a rule, with the first rule that it breaks.
     fn check_masters(&self) -> Result<(), TopoFault>
-        ensures { let first = first_at (master_cause self.now) 0 self.now.masters in
+        ensures { let first = first_fault_from (master_cause self.now) 0 self.now.masters in
             MatchResult result (λ _. first ≡ None) (λ fault. first ≡ Some fault) }
     {
         for (place, master) in self.masters.as_slice().iter().enumerate() {

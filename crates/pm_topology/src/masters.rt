@@ -3,26 +3,11 @@
 ghost use Rattle.std.specs.Prelude.{◌≡◌, ◌==◌, ◌||◌};
 ghost use Rattle.std.specs.List.{list_any};
 ghost use Rattle.pm_topology.specs.FirstFault.{has_all_masters, overlap};
-ghost use Rattle.pm_topology.specs.Masters.{has_twice, is_half_of, is_master_number, may_have};
+ghost use Rattle.pm_topology.specs.Masters.{has_twice, may_have};
 
 use crate::topology::MasterDef;
 use pm_base::NodeId;
-
-/// The numbers of masters: the APU, the RPU in lock-step, and its two halves.
-const APU: NodeId = NodeId(1);
-
-const RPU: NodeId = NodeId(6);
-
-const RPU_0: NodeId = NodeId(7);
-
-const RPU_1: NodeId = NodeId(8);
-
-/// Whether a master can have this number: 1, 6, 7 or 8.
-pub(crate) fn is_master_number(node: NodeId) -> bool
-    ensures { result ≡ is_master_number node.0 }
-{
-    node == APU || node == RPU || node == RPU_0 || node == RPU_1
-}
+use pm_base::masters::{APU, RPU, RPU_0, RPU_1, is_half_of, is_master_number, splits_lockstep};
 
 /// Whether a master has this number.
 pub(crate) fn has_master(masters: &[MasterDef], node: NodeId) -> bool
@@ -39,13 +24,6 @@ pub(crate) fn has_all_masters(masters: &[MasterDef]) -> bool
         && has_master(masters, RPU)
         && has_master(masters, RPU_0)
         && has_master(masters, RPU_1)
-}
-
-/// Whether the one number is that of a half of the RPU, and the other that of the RPU in lock-step.
-fn is_half_of(half: NodeId, whole: NodeId) -> bool
-    ensures { result ≡ is_half_of half.0 whole.0 }
-{
-    whole == RPU && (half == RPU_0 || half == RPU_1)
 }
 
 /// Whether a master may have a processor: one with the number of a master is that master's alone, or
@@ -67,14 +45,7 @@ pub(crate) fn overlaps(master: &MasterDef, others: &[MasterDef]) -> bool
 fn overlap(one: &MasterDef, other: &MasterDef) -> bool
     ensures { result ≡ overlap one.now other.now }
 {
-    share(one.procs.as_slice(), other.procs.as_slice()) && !may_share(one.node, other.node)
-}
-
-/// Whether one of two masters is the lock-step pair, and the other a half of it.
-fn may_share(one: NodeId, other: NodeId) -> bool
-    ensures { result ≡ is_half_of one.0 other.0 || is_half_of other.0 one.0 }
-{
-    is_half_of(one, other) || is_half_of(other, one)
+    share(one.procs.as_slice(), other.procs.as_slice()) && !splits_lockstep(one.node, other.node)
 }
 
 /// Whether these nodes have one in common.

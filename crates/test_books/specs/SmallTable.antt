@@ -1,12 +1,13 @@
 -- The table of a small chip, in which the number 8 is both a master's node and a power node's, which is not a part of
 -- that master.
 use Rattle.std.specs.Prelude.{true, false, None, List, [], ◌∷◌}
+use Rattle.pm_base.specs.Names.{numbered_node as node}
 use Rattle.pm_topology.specs.declared.topology.SlaveDef.{SlaveDef}
 use Rattle.pm_topology.specs.declared.topology.ProcDef.{ProcDef}
 use Rattle.pm_topology.specs.declared.topology.PowerDef.{PowerDef}
 use Rattle.pm_topology.specs.declared.topology.MasterDef.{MasterDef}
 use Rattle.pm_topology.specs.declared.topology.Topology.{Topology}
-use Rattle.pm_chip.specs.Chip.{node, power, proc, master}
+use Rattle.pm_chip.specs.Chip.{power, proc, master}
 use Rattle.pm_chip.specs.Classes.{state}
 
 -- a held power node, and one with nothing below it

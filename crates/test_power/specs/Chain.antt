@@ -1,8 +1,9 @@
 -- A chip of four power nodes, each below the one before it, with a processor at each of them.
 use Rattle.std.specs.Prelude.{Bool, Some, None, List, [], ◌∷◌, false}
+use Rattle.pm_base.specs.Names.{numbered_node as node}
 use Rattle.pm_topology.specs.declared.topology.ProcDef.{ProcDef}
 use Rattle.pm_topology.specs.declared.topology.PowerDef.{PowerDef}
-use Rattle.pm_chip.specs.Chip.{node, power, proc}
+use Rattle.pm_chip.specs.Chip.{power, proc}
 use Rattle.pm_power.specs.declared.child.Child.{Child}
 use Rattle.pm_power.specs.Needs.{child}
 

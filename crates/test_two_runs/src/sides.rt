@@ -6,7 +6,7 @@ ghost use Rattle.pm_base.specs.declared.events.Event.TheVariants.{Wfi};
 ghost use Rattle.pm_object.specs.Grammar.{IsObject};
 ghost use Rattle.pm_state.specs.Load.{load_of};
 ghost use Rattle.pm_laws.specs.Beside.{IsOwn};
-ghost use Rattle.pm_laws.specs.ReachBorder.{place_of};
+ghost use Rattle.pm_laws.specs.ReachBorder.{configured_place};
 ghost use Rattle.test_two_runs.specs.Sides.{AreSides, at_4096};
 ghost use Rattle.test_books.specs.SmallTable.{small};
 
@@ -172,12 +172,12 @@ pub(crate) fn step_line(
 fn owns(object: &Object, t: &Topology, m: NodeId, proc: NodeId) -> bool
     ensures { IsTrue result → IsOwn object.now t.now m (Wfi proc) }
 {
-    owner_of(object, t, proc) == place_of(object, m)
+    owner_of(object, t, proc) == configured_place(object, m)
 }
 
 /// The place of the master in the object.
-fn place_of(object: &Object, m: NodeId) -> Option<usize>
-    ensures { result ≡ place_of object.now m }
+fn configured_place(object: &Object, m: NodeId) -> Option<usize>
+    ensures { result ≡ configured_place object.now m }
 {
     let masters = object.masters.as_slice();
     masters.iter().position(|record| record.node == m.0)

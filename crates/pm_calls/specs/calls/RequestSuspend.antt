@@ -10,18 +10,18 @@ use Rattle.pm_calls.specs.declared.verdict.Say.{Say}
 use Rattle.pm_calls.specs.declared.verdict.Say.TheVariants.{Ask}
 use Rattle.pm_calls.specs.declared.views.SuspendView.{SuspendView}
 use Rattle.pm_calls.specs.declared.views.Suspendable.{Suspendable}
-use Rattle.pm_calls.specs.Checks.{Checks, Standing, Fits, InUse, WrongMode, unchecked}
+use Rattle.pm_calls.specs.Checks.{Checks, Finding, Fits, InUse, WrongMode, unchecked}
 use Rattle.pm_calls.specs.Verdict.{Called, effecting, saying}
 
 -- the last check: no request is pending on the target yet, and it is active
-abbrev pub to_ask : (pending : Bool) → Mode → Standing
+abbrev pub to_ask : (pending : Bool) → Mode → Finding
 to_ask true mode = InUse
 to_ask false Active = Fits
 to_ask false Suspending = WrongMode
 to_ask false Asleep = WrongMode
 to_ask false Off = WrongMode
 
-abbrev pub to_suspend_other : Option Suspendable → Standing
+abbrev pub to_suspend_other : Option Suspendable → Finding
 to_suspend_other None = Fits
 to_suspend_other (Some target) = to_ask target.pending target.mode
 
@@ -32,7 +32,7 @@ request_suspend_checks ack view = record unchecked {
   acknowledge = is_some (ack_kind ack);
   node = view.named;
   permitted = is_some view.target;
-  standing = to_suspend_other view.target;
+  finding = to_suspend_other view.target;
 }
 
 -- the request to the target: the caller's words, and the timeout that the object gives the target

@@ -5,18 +5,18 @@ use Rattle.pm_base.specs.declared.names.Mode.TheVariants.{Off, Active, Asleep, S
 use Rattle.pm_ipi.specs.Calls.{ack_kind}
 use Rattle.pm_calls.specs.declared.views.WakeView.{WakeView}
 use Rattle.pm_calls.specs.declared.views.Wakeable.{Wakeable}
-use Rattle.pm_calls.specs.Checks.{Checks, Standing, Fits, WrongMode, unchecked}
+use Rattle.pm_calls.specs.Checks.{Checks, Finding, Fits, WrongMode, unchecked}
 use Rattle.pm_state.specs.Prims.{Prim, Put_proc}
 use Rattle.pm_calls.specs.Verdict.{Called, changing}
 
 -- a processor wakes unless it is active
-abbrev pub to_wake : Mode → Standing
+abbrev pub to_wake : Mode → Finding
 to_wake Active = WrongMode
 to_wake Suspending = Fits
 to_wake Asleep = Fits
 to_wake Off = Fits
 
-abbrev pub to_wake_other : Option Wakeable → Standing
+abbrev pub to_wake_other : Option Wakeable → Finding
 to_wake_other None = Fits
 to_wake_other (Some target) = to_wake target.proc.mode
 
@@ -26,7 +26,7 @@ request_wakeup_checks ack view = record unchecked {
   acknowledge = is_some (ack_kind ack);
   node = is_some view.place;
   permitted = is_some view.target;
-  standing = to_wake_other view.target;
+  finding = to_wake_other view.target;
 }
 
 -- the change: the processor is active, and resumes at this address; without an address at its own, which is 0 after

@@ -1,6 +1,6 @@
 use Rattle.std.proofs.Common.{List, Option, ℕ, arith, map, subst}
 use Rattle.pm_clock_tree.specs.declared.clock_tree.ClockChange.{ClockChange}
-use Rattle.pm_clock_tree.specs.Told.{listed}
+use Rattle.std.specs.Prelude.{option_to_list}
 use Rattle.pm_drive.specs.Clocks.{clock_note}
 use Rattle.pm_trace.specs.Notes.{notes_text}
 use Rattle.pm_engine.specs.Writes.{WritesOn}
@@ -13,7 +13,7 @@ loop-def-init g c = on-none g.O.Sink c.args.written c.args.out.now
 
 pub loop-def-preserved : goal.loop-def-preserved
 loop-def-preserved g c =
-    let P : Option ClockChange → Type 0 = λ change. WritesOn g.O.Sink (notes_text c.args.number (map clock_note (listed change))) c.loop-def.so_far c.change_on-so_far.result c.loop-def.out c.change_on-so_far.new.out in
+    let P : Option ClockChange → Type 0 = λ change. WritesOn g.O.Sink (notes_text c.args.number (map clock_note (option_to_list change))) c.loop-def.so_far c.change_on-so_far.result c.loop-def.out c.change_on-so_far.new.out in
     one_written g.O.Sink (turn_text c.args.number c.args.clocks.now) c.all_clocks-def-items.result.now c.loop-def.def-index _ c.args.written c.loop-def.so_far c.change_on-so_far.result
     c.args.out.now c.loop-def.out c.change_on-so_far.new.out c.loop-def-test.true c.loop-def.invariant (subst P c.change.ensures c.change_on-so_far.ensures)
 

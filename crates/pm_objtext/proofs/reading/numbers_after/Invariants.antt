@@ -1,7 +1,6 @@
 use Rattle.std.proofs.Common.{◌≡◌, ◌+◌, ◌-◌, ◌≤◌, length, drop}
 use Rattle.pm_io.specs.Words.{word_texts}
-use Rattle.pm_objtext.specs.Reading.{greatest_number}
-use Rattle.pm_io.specs.Numbers.{numbers_in}
+use Rattle.pm_io.specs.Numbers.{greatest_number, numbers_in}
 use Rattle.pm_objtext.proofs.ReadingLemmas.{with_front}
 use Rattle.pm_objtext.proofs.reading.numbers_after.Given as goal
 

@@ -1,6 +1,6 @@
 use Rattle.std.proofs.Common.{ℕ, ◌<◌, List, length, ap, subst}
 use Rattle.std.proofs.lemmas.Bool.{not-false}
-use Rattle.pm_record.specs.Places.{has_place}
+use Rattle.pm_base.specs.Places.{has_place}
 use Rattle.pm_record.specs.Record.{Kept}
 use Rattle.pm_record.specs.Marks.{LagsNotAt}
 use Rattle.pm_record.proofs.ListedLemmas.{lags_not}

@@ -1,7 +1,8 @@
 use Rattle.std.proofs.Common.{◌≡◌, ◌<◌, ◌==◌, ◌||◌, if◌then◌else◌, ℕ, List, [], ◌∷◌, ◌++◌, length, subst, sym, ap, ◌∙◌, arith}
 use Rattle.std.specs.Prelude.{insert, is_ok}
 use Rattle.pm_base.specs.BoundedList.{Bounded}
-use Rattle.pm_record.specs.Places.{RiseWithin, StandsBefore, has_place}
+use Rattle.pm_base.specs.Places.{has_place}
+use Rattle.pm_record.specs.Places.{RiseWithin, StandsBefore}
 use Rattle.pm_record.proofs.PlacesLemmas.{has_insert, insert_last, rise_insert, room_left}
 use Rattle.pm_record.proofs.places.Places.put_last.Goals as goal
 

@@ -1,11 +1,11 @@
 use Rattle.std.proofs.Common.{◌≡◌, ◌∙◌, ap, length, unwrap_or, slice_get, arith}
-use Rattle.pm_rows.specs.Spans.{place_of}
+use Rattle.pm_rows.specs.Spans.{span_place}
 use Rattle.pm_rows.proofs.Cells.{seen_span}
 use Rattle.pm_rows.proofs.table.Table.span.Goals as goal
 
 pub returns : goal.returns
 returns c =
-    let place : c.at_or.result ≡ place_of c.args.slave c.self.inside.spans.first.items =
+    let place : c.at_or.result ≡ span_place c.args.slave c.self.inside.spans.first.items =
     c.at_or.ensures ∙ ap (λ xs. unwrap_or (slice_get xs c.args.slave) 0) c.deref-2.ensures.value
     in
     seen_span c.args.self.now c.self.inside.seeds c.self.inside.cells _ (length c.self.inside.users) c.self.inside.narrow

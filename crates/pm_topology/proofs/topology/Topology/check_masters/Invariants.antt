@@ -1,8 +1,8 @@
 use Rattle.std.proofs.Common.{◌≡◌, drop}
-use Rattle.pm_topology.specs.FirstFault.{first_at, master_cause}
+use Rattle.pm_topology.specs.FirstFault.{first_fault_from, master_cause}
 use Rattle.pm_topology.proofs.topology.Topology.check_masters.Given as goal
 
 -- the first fault of what is left is that of the list
 abbrev pub invariant-loop-place : goal.invariant-loop-place
 invariant-loop-place l =
-    first_at (master_cause l.self) l.place (drop l.place l.master-items) ≡ first_at (master_cause l.self) 0 l.self.masters
+    first_fault_from (master_cause l.self) l.place (drop l.place l.master-items) ≡ first_fault_from (master_cause l.self) 0 l.self.masters

@@ -1,8 +1,8 @@
 use Rattle.std.proofs.Common.{◌≡◌, drop}
-use Rattle.pm_topology.specs.FirstFault.{first_at, slave_cause}
+use Rattle.pm_topology.specs.FirstFault.{first_fault_from, slave_cause}
 use Rattle.pm_topology.proofs.topology.Topology.check_slaves.Given as goal
 
 -- the first fault of what is left is that of the list
 abbrev pub invariant-loop-place : goal.invariant-loop-place
 invariant-loop-place l =
-    first_at (slave_cause l.self) l.place (drop l.place l.slave-items) ≡ first_at (slave_cause l.self) 0 l.self.slaves
+    first_fault_from (slave_cause l.self) l.place (drop l.place l.slave-items) ≡ first_fault_from (slave_cause l.self) 0 l.self.slaves
