@@ -93,19 +93,25 @@ shift_cleared Suspending Active taken row is = refl
 shift_cleared Suspending Asleep taken row is = refl
 shift_cleared Suspending Suspending taken row is = refl
 
+-- so does an idle row
+pub idle_shifts : (from to : Mode) (taken : Bool) (row : Row) → is_idle row ≡ true → (not (is_start from to) || (row.preset.0 == 0)) ≡ true
+    → shifted_row from to taken row ≡ row
+idle_shifts from to taken row idle none =
+    let same = idle_is row idle in
+    ap (shifted_row from to taken) same ∙ (shift_cleared from to taken row none ∙ sym same)
+
 -- a row that a pass leaves is the row before
 pub left_is : (pass : Pass) (entries : List Entry) (x : Entry) → is_left pass x.row ≡ true → row_after pass entries x ≡ x.row
 left_is (One m s by) entries x is = cc
 left_is (Settle m) entries x is = ap (λ h. record x.row { hold = h }) (sym (not_true x.row.hold is))
 left_is (Shift m from to) entries x is =
     let parts = both_true _ _ is in
-    let same = idle_is x.row parts.0 in
-    ap (shifted_row from to (is_taken entries x)) same ∙ (shift_cleared from to (is_taken entries x) x.row parts.1 ∙ sym same)
+    idle_shifts from to (is_taken entries x) x.row parts.0 parts.1
 left_is (DropSlave s) entries x is = sym (idle_is x.row is)
 left_is Clear entries x is = sym (idle_is x.row is)
 
 -- an idle row requires the same in each mode
-idle_needs : (from to : Mode) (x : Entry) → is_idle x.row ≡ true → required_by to x ≡ required_by from x
+pub idle_needs : (from to : Mode) (x : Entry) → is_idle x.row ≡ true → required_by to x ≡ required_by from x
 idle_needs from to x idle =
     let same = idle_is x.row idle in
     ap (λ (row : Row). required_by to (record x { row = row })) same ∙ sym (ap (λ (row : Row). required_by from (record x { row = row })) same)

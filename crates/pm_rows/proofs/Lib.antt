@@ -8,6 +8,7 @@ pub mod Filled
 pub mod Kept
 pub mod Known
 pub mod Left
+pub mod Linked
 pub mod Lists
 pub mod Loaded
 pub mod Mapped

@@ -2,6 +2,7 @@ pub mod Cost
 pub mod Counted
 pub mod Filling
 pub mod Kept
+pub mod Links
 pub mod Modes
 pub mod Passes
 pub mod Passing

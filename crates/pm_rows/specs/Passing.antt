@@ -1,5 +1,5 @@
 -- A list in the middle of a pass: what is done, and what is left.
-use Rattle.std.specs.Prelude.{◌≡◌, ℕ, ◌+◌, ◌<◌, ◌^◌, List, Some, length, slice_get, slice_set, sum_by}
+use Rattle.std.specs.Prelude.{◌≡◌, ℕ, ◌+◌, ◌<◌, ◌^◌, true, false, List, Some, length, slice_get, slice_set, sum_by}
 use Rattle.std.specs.Prelude.{drop}
 use Rattle.pm_cells.specs.Midway.{midway}
 use Rattle.pm_base.specs.declared.names.Mode.{Mode}
@@ -7,7 +7,7 @@ use Rattle.pm_rows.specs.declared.row.Entry.{Entry}
 use Rattle.pm_rows.specs.declared.passes.Pass.{Pass}
 use Rattle.pm_rows.specs.Modes.{mode_in}
 use Rattle.pm_rows.specs.Counted.{AreReady, Counted, Table, AreTallied, counted, counted_in, limit_of, moved, permitted_on}
-use Rattle.pm_rows.specs.Passes.{passed, known_after, row_after, cost_of, done}
+use Rattle.pm_rows.specs.Passes.{passed, known_after, row_after, cost_of, done, touches}
 use Rattle.pm_rows.specs.Cost.{put_cost}
 
 abbrev pub same : Entry → Entry
@@ -39,6 +39,11 @@ PutsAt pass known k before start after steps =
     (x : Entry) → slice_get before.entries k ≡ Some x
     → IsPut k (counted known x)
     (counted_in (mode_in x.seed.master (known_after pass known)) (record x { row = row_after pass before.entries x })) before start after steps
+
+-- the row at place k is as a pass makes it, if the pass touches it; else nothing changes
+pub record Visits (pass : Pass) (known : List Mode) (k : ℕ) (before : Table) (start : ℕ) (after : Table) (steps : ℕ) : Type 0 where
+  pub touched : (x : Entry) → slice_get before.entries k ≡ Some x → touches pass x.seed ≡ true → PutsAt pass known k before start after steps
+  pub left : (x : Entry) → slice_get before.entries k ≡ Some x → touches pass x.seed ≡ false → (after ≡ before) × (steps ≡ start)
 
 -- before place k the rows are as after the pass and counted in the modes then, from there on as before it, and what was read
 -- and counted is what the rows before place k cost

@@ -5,6 +5,7 @@ ghost use Rattle.std.specs.List.{list_all};
 ghost use Rattle.pm_rows.specs.Counted.{blank_entry, blank_row, is_narrow_pair, is_placed_seed, no_tally};
 ghost use Rattle.pm_rows.specs.Rows.{pair_of};
 
+use crate::links::Links;
 use crate::row::{Pair, Row, RowSeed};
 use crate::spans::Spans;
 use crate::table::Table;
@@ -13,12 +14,18 @@ use pm_cells::{Cells, Counts};
 use std::alloc::Global;
 
 impl Table {
-    /// No rows, with room for so many.
-    pub(crate) fn blank(alloc: Global, slaves: usize, room: usize) -> Result<Table, NoMemory>
+    /// No rows of so many masters, with room for so many.
+    pub(crate) fn blank(
+        alloc: Global,
+        masters: usize,
+        slaves: usize,
+        room: usize,
+    ) -> Result<Table, NoMemory>
         requires few { room < 2 ^ 31 }
         ensures { IfOk result (λ table. table
             ≡ record { entries = []; tally = no_tally slaves; slaves = slaves; room = room }) }
     {
+        let links = Links::unlinked(alloc, masters, room)?;
         let rows = both(
             both(
                 BoundedList::with_room(alloc, room),
@@ -40,6 +47,7 @@ impl Table {
             seeds,
             room,
             spans,
+            links,
             narrow: true,
             cells,
             access,
@@ -60,6 +68,7 @@ impl Table {
         put_pairs(&mut self.seeds, seeds);
         blank_all(&mut self.cells, self.room);
         self.spans.index(self.seeds.as_slice());
+        self.links.link(self.seeds.as_slice());
         self.narrow = are_narrow(self.seeds.as_slice());
     }
 }

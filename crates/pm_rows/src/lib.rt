@@ -6,6 +6,7 @@ mod counting;
 mod filling;
 mod fitting;
 mod laws;
+mod links;
 mod modes;
 mod passes;
 mod passing;

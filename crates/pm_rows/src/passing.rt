@@ -1,13 +1,14 @@
 //! A pass over all rows, which keeps the counts.
 
-ghost use Rattle.std.specs.Prelude.{◌≡◌, ℕ, ◌+◌, ◌<◌, ◌^◌, Some, length, map, slice_get, slice_set, sum_by};
+ghost use Rattle.std.specs.Prelude.{◌≡◌, ℕ, ◌+◌, ◌<◌, ◌≤◌, ◌^◌, Some, length, map, slice_get, slice_set, sum_by};
 ghost use Rattle.pm_rows.specs.declared.passes.Pass.TheVariants.{One};
 ghost use Rattle.pm_rows.specs.declared.row.Change.TheVariants.{Arm, Limit, Release, Request, Set};
 ghost use Rattle.pm_rows.specs.Modes.{mode_in};
 ghost use Rattle.pm_rows.specs.Shift.{is_taken, shifted_row};
 ghost use Rattle.pm_rows.specs.Counted.{AreTallied, counted};
 ghost use Rattle.pm_rows.specs.Passes.{cost_of, is_left, known_after, passed, row_after};
-ghost use Rattle.pm_rows.specs.Passing.{MayPutAt, PutsAt};
+ghost use Rattle.pm_rows.specs.Passing.{MayPutAt, PutsAt, Visits};
+ghost use Rattle.pm_rows.specs.Links.{IsNextFor};
 ghost use Rattle.pm_rows.specs.Spans.{IsCover};
 
 use crate::modes::mode_in;
@@ -257,6 +258,19 @@ fn pass_at<L: Ledger>(table: &mut Table, k: usize, known: &[Mode], pass: Pass, s
     }
 }
 
+/// Changes the row at a place, if a pass touches it, and counts it.
+#[inline(always)]
+fn visit<L: Ledger>(table: &mut Table, k: usize, known: &[Mode], pass: Pass, steps: &mut Steps<L>)
+    requires within { k < length table.old.entries }
+    requires ready { MayPutAt known.now k table.old }
+    ensures { Visits pass known.now k table.old steps.old table.new steps.new }
+{
+    let seed = table.seed(k);
+    if pass.touches(seed) {
+        pass_at(table, k, known, pass, steps);
+    }
+}
+
 /// Between which places the rows stand that a pass touches.
 fn cover(table: &Table, pass: Pass) -> (usize, usize)
     ensures { IsCover pass result.0 result.1 table.now.entries }
@@ -264,6 +278,19 @@ fn cover(table: &Table, pass: Pass) -> (usize, usize)
     match pass {
         Pass::One(_, slave, _) | Pass::DropSlave(slave) => table.span(slave),
         Pass::Settle(_) | Pass::Shift(_, _, _) | Pass::Clear => (0, table.len()),
+    }
+}
+
+/// A place from this one on before which no row stands that a pass touches, the end at most.
+#[inline(always)]
+#[tactic(auto, using(crate::proofs::Linked::next_settle, crate::proofs::Linked::next_shift, crate::proofs::Linked::next_here))]
+pub(crate) fn next_for(table: &Table, pass: Pass, from: usize, end: usize) -> usize
+    requires { from ≤ end }
+    ensures { IsNextFor pass from result end table.now.entries }
+{
+    match pass {
+        Pass::Settle(m) | Pass::Shift(m, _, _) => table.next_of(m, from).min(end),
+        Pass::One(_, _, _) | Pass::DropSlave(_) | Pass::Clear => from,
     }
 }
 
@@ -284,10 +311,9 @@ pub(crate) fn pass_over<L: Ledger>(
     ensures cost { steps.new ≡ steps.old + sum_by (cost_of pass known.now table.old.entries) table.old.entries }
 {
     let (first, past) = cover(table, pass);
-    for k in first..past {
-        let seed = table.seed(k);
-        if pass.touches(seed) {
-            pass_at(table, k, known, pass, steps);
-        }
+    let mut k = next_for(table, pass, first, past);
+    'rows: while k < past {
+        visit(table, k, known, pass, steps);
+        k = next_for(table, pass, k + 1, past);
     }
 }

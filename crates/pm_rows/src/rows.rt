@@ -5,6 +5,7 @@ ghost use Rattle.std.specs.List.{list_all};
 ghost use Rattle.pm_rows.specs.declared.row.Change.TheVariants.{Request, Release, Set, Limit, Arm};
 ghost use Rattle.pm_rows.specs.Cost.{IsCheap, change_cost};
 ghost use Rattle.pm_rows.specs.Counted.{is_placed_seed};
+ghost use Rattle.pm_rows.specs.Links.{IsNextOf};
 ghost use Rattle.pm_rows.specs.Rows.{mode_of, loaded_rows, remade, row_changed, settled, slave_dropped, all_cleared, entry_at, row_at, rival_of, users_of, usage_of};
 ghost use Rattle.pm_rows.specs.Shift.{shifted};
 ghost use Rattle.pm_rows.specs.Wanted.{wanted_of};
@@ -78,7 +79,7 @@ impl Rows {
         if pairs >= 1 << 31 {
             return Err(NoMemory);
         }
-        let mut table = Table::blank(alloc, slaves, pairs)?;
+        let mut table = Table::blank(alloc, masters, slaves, pairs)?;
         table.refit(seeds);
         let known = loaded_modes(alloc, masters, boot)?;
         fill(&mut table, &known, seeds, steps);
@@ -119,6 +120,14 @@ impl Rows {
         ensures { slice_get self.now.entries k ≡ Some result }
     {
         self.table.peek(k)
+    }
+
+    /// A place from this one on before which no row of a master stands: that of its next row, or the number of rows, unless
+    /// the row before this place is another's. So a walk over the rows of a master looks at no other.
+    pub fn next_of(&self, master: usize, from: usize) -> usize
+        ensures { IsNextOf master from result self.now.entries }
+    {
+        self.table.next_of(master, from)
     }
 
     /// The row of a pair with its pair, which is there if the pair is permitted.

@@ -5,10 +5,12 @@ ghost use Rattle.std.specs.List.{list_all};
 ghost use Rattle.std.specs.Option.{option_map};
 ghost use Rattle.pm_rows.specs.Cost.{limit_cost, put_cost};
 ghost use Rattle.pm_rows.specs.Counted.{AreReady, AreTallied, counted, counted_in, is_narrow, is_placed, limit_of, moved, permitted_on, wanted_in};
+ghost use Rattle.pm_rows.specs.Links.{IsNextOf};
 ghost use Rattle.pm_rows.specs.Spans.{IsSpan};
 ghost use Rattle.pm_rows.specs.Wanted.{nothing_wanted, with_row};
 
 use crate::counting::{flag, follow, follow_needs, follow_wants};
+use crate::links::{Links, link_at};
 use crate::row::{Entry, Pair, Row};
 use crate::spans::Spans;
 use crate::wanted::{Wanted, least, with_row};
@@ -18,13 +20,14 @@ use std::marker::Model;
 use std::sync::ledger::Ledger;
 
 /// The rows in cells, the pair of each, and for each slave how many rows want each capability, how many are
-/// used, and the least latency. Beside the pairs stands between which places those of each slave are, and
-/// whether no pair and no row had a capability past the three that are counted.
+/// used, and the least latency. Beside the pairs stands between which places those of each slave are, where those of each master
+/// are, and whether no pair and no row had a capability past the three that are counted.
 #[derive(Drop)]
 pub(crate) struct Table {
     pub(crate) seeds: BoundedList<Pair>,
     pub(crate) room: usize,
     pub(crate) spans: Spans,
+    pub(crate) links: Links,
     pub(crate) narrow: bool,
     pub(crate) cells: Cells<Row>,
     pub(crate) access: Counts,
@@ -38,6 +41,7 @@ impl Model for Table {
     ghost use Rattle.std.specs.Prelude.{◌≡◌, length};
     ghost use Rattle.pm_rows.specs.Counted.{Table, entries_of};
     ghost use Rattle.pm_rows.specs.Kept.{IsKept};
+    ghost use Rattle.pm_rows.specs.Links.{IsLinked};
 
     ghost Value = { Table };
 
@@ -56,7 +60,8 @@ impl Model for Table {
 
     ghost invariant = { λ table.
         IsKept table.seeds table.cells (length table.users) table.narrow table.spans.first.items
-        table.spans.past.items × (table.room ≡ length table.cells) };
+        table.spans.past.items × (table.room ≡ length table.cells)
+        × IsLinked 0 table.seeds.items table.links.first.items table.links.next.items };
 }
 
 /// The pair at a place.
@@ -89,6 +94,7 @@ impl Table {
             seeds: _,
             room: _,
             spans: _,
+            links: _,
             narrow: _,
             cells: _,
             access: _,
@@ -146,6 +152,20 @@ impl Table {
     {
         let past = at_or(&self.spans.past, slave, 0);
         (at_or(&self.spans.first, slave, 0).min(past), past)
+    }
+
+    /// A place from this one on before which no row of a master stands: that of its next row, or the number of rows, unless
+    /// the row before this place is another's.
+    pub(crate) fn next_of(&self, master: usize, from: usize) -> usize
+        ensures { IsNextOf master from result self.now.entries }
+    {
+        if from == 0 {
+            link_at(master, &self.links.first)
+        } else if from <= self.len() && self.seed(from - 1).master == master {
+            link_at(from - 1, &self.links.next).max(from)
+        } else {
+            from
+        }
     }
 
     /// The least latency of the used rows on a slave. Each row on it is read once.

@@ -6,10 +6,10 @@ ghost use Rattle.pm_rows.specs.Modes.{mode_in};
 ghost use Rattle.pm_rows.specs.Shift.{is_calm};
 ghost use Rattle.pm_rows.specs.Counted.{AreTallied, counted};
 ghost use Rattle.pm_rows.specs.Passes.{passed};
-ghost use Rattle.pm_rows.specs.Passing.{MayPutAt, PutsAt, Turns};
+ghost use Rattle.pm_rows.specs.Passing.{MayPutAt, PutsAt, Turns, Visits};
 
 use crate::passes::Pass;
-use crate::passing::pass_over;
+use crate::passing::{next_for, pass_over};
 use crate::shift::{is_calm, turned_row};
 use crate::table::Table;
 use crate::wanted::arming_differs;
@@ -41,6 +41,30 @@ fn turn_at<L: Ledger>(
     }
 }
 
+/// Puts the row at a place so, if it is the master's.
+#[inline(always)]
+fn turn_own<L: Ledger>(
+    table: &mut Table,
+    k: usize,
+    known: &[Mode],
+    m: usize,
+    from: Mode,
+    to: Mode,
+    steps: &mut Steps<L>,
+)
+    requires calm { is_calm from to ≡ true }
+    requires there { m < length known.now }
+    requires mode { mode_in m known.now ≡ from }
+    requires within { k < length table.old.entries }
+    requires ready { MayPutAt known.now k table.old }
+    ensures { Visits (Shift m from to) known.now k table.old steps.old table.new steps.new }
+{
+    let seed = table.seed(k);
+    if seed.master == m {
+        turn_at(table, k, known, m, from, to, steps);
+    }
+}
+
 /// Changes the rows of a master whose mode changes calmly, one after another, and counts them in that mode.
 #[inline(always)]
 fn turn_over<L: Ledger>(
@@ -60,11 +84,11 @@ fn turn_over<L: Ledger>(
     ensures slaves { table.new.slaves ≡ table.old.slaves }
     ensures room { table.new.room ≡ table.old.room }
 {
-    for k in 0..table.len() {
-        let seed = table.seed(k);
-        if seed.master == m {
-            turn_at(table, k, known, m, from, to, steps);
-        }
+    let end = table.len();
+    let mut k = next_for(table, Pass::Shift(m, from, to), 0, end);
+    'rows: while k < end {
+        turn_own(table, k, known, m, from, to, steps);
+        k = next_for(table, Pass::Shift(m, from, to), k + 1, end);
     }
 }
 

@@ -32,7 +32,8 @@ use Rattle.pm_state.specs.State.{CoreHalf, Fixed, Now, State, object_at}
 use Rattle.pm_rows.proofs.Left.{idle_is}
 use Rattle.pm_state.proofs.ChangesLemmas.{unlisted_at}
 use Rattle.pm_state.proofs.FollowLemmas.{other_mode}
-use Rattle.pm_state.proofs.IdleLemmas.{Apart, apart_of, idle_adds, idle_needs, idle_of, idle_shifts, idle_unused}
+use Rattle.pm_rows.proofs.Left.{idle_needs, idle_shifts}
+use Rattle.pm_state.proofs.IdleLemmas.{Apart, apart_of, idle_adds, idle_of, idle_unused}
 
 -- ---- what isn't written down after one more wasn't before
 

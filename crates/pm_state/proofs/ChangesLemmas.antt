@@ -5,7 +5,7 @@ use Rattle.std.specs.List.{list_any}
 use Rattle.std.proofs.lemmas.Bool.{eqb-true}
 use Rattle.std.proofs.lemmas.Bool.Decides.{nat_tests}
 use Rattle.std.proofs.lemmas.Grind.{get_or-set_at}
-use Rattle.std.proofs.lemmas.List.{get_or-set_other, drop_more, length-append, length-replicate, length-set}
+use Rattle.std.proofs.lemmas.List.{get_or-set_other, drop_all, drop_more, length-append, length-replicate, length-set}
 use Rattle.std.proofs.Math.Seq.{take-append_seam}
 use Rattle.std.proofs.lemmas.List.Folds.{list_any-append}
 use Rattle.std.proofs.lemmas.List.Sums.{count_by-le-length, sum_by-set}
@@ -162,3 +162,33 @@ pub masters_step : (end m : ℕ) (rows : Rows) (w next : Written) → m < end �
 masters_step end m rows w next within is =
     let count : end - m ≡ suc (end - (m + 1)) = omega (arith, within) in
     ap (with_masters (end - (m + 1)) (m + 1) rows) is ∙ ap (λ n. with_masters n m rows w) (sym count)
+
+-- a row that doesn't pass the test is passed over, and so are several
+rows_one : (test : Entry → Bool) (entries : List Entry) (k : ℕ) (places : Listed) → ((e : Entry) → slice_get entries k ≡ Some e → test e ≡ false)
+    → listed_rows test (drop (suc k) entries) places ≡ listed_rows test (drop k entries) places
+rows_one test [] zero places off = refl
+rows_one test [] (suc k) places off = refl
+rows_one test (e ∷ entries) zero places off = sym (ap (λ (b : Bool). listed_rows test entries (listed_if b e.seed.slave places)) (off e refl))
+rows_one test (e ∷ entries) (suc k) places off = rows_one test entries k places off
+
+rows_skip : (test : Entry → Bool) (entries : List Entry) (n k : ℕ) (places : Listed)
+    → ((j : ℕ) (e : Entry) → slice_get entries j ≡ Some e → k ≤ j → j < k + n → test e ≡ false)
+    → listed_rows test (drop (k + n) entries) places ≡ listed_rows test (drop k entries) places
+rows_skip test entries zero k places off = let here : k + 0 ≡ k = omega arith in ap (λ j. listed_rows test (drop j entries) places) here
+rows_skip test entries (suc n) k places off =
+    let next : k + suc n ≡ suc k + n = omega arith in
+    ap (λ j. listed_rows test (drop j entries) places) next
+    ∙ (rows_skip test entries n (suc k) places (λ j e there past below. off j e there (omega arith) (omega arith))
+    ∙ rows_one test entries k places (λ e there. off k e there (omega arith) (omega arith)))
+
+pub rows_next : (test : Entry → Bool) (entries : List Entry) (k next : ℕ) (places : Listed) → k ≤ next
+    → ((j : ℕ) (e : Entry) → slice_get entries j ≡ Some e → k ≤ j → j < next → test e ≡ false)
+    → listed_rows test (drop next entries) places ≡ listed_rows test (drop k entries) places
+rows_next test entries k next places order off =
+    let there : k + (next - k) ≡ next = omega arith in
+    ap (λ j. listed_rows test (drop j entries) places) (sym there)
+    ∙ rows_skip test entries (next - k) k places (λ j e at past below. off j e at past (omega arith))
+
+-- past the last row nothing is left
+pub rows_end : (test : Entry → Bool) (entries : List Entry) (k : ℕ) (places : Listed) → length entries ≤ k → places ≡ listed_rows test (drop k entries) places
+rows_end test entries k places past = sym (ap (λ es. listed_rows test es places) (drop_all k entries past))

@@ -1,15 +1,12 @@
 -- An idle row stays as it is, nothing is required by it, and nobody uses a slave by it.
-use Rattle.std.proofs.Common.{◌≡◌, ℕ, ◌==◌, ◌&&◌, ◌||◌, Bool, true, false, not, if◌then◌else◌, Option, Some, None, refl, arith, sym, ap, ◌∙◌, ◌⊎◌, inl, inr}
+use Rattle.std.proofs.Common.{◌≡◌, ℕ, ◌==◌, ◌&&◌, ◌||◌, Bool, true, false, not, if◌then◌else◌, Option, Some, None, refl, arith, ap, ◌∙◌, ◌⊎◌, inl, inr}
 use Rattle.std.specs.Prelude.{bit_or}
 use Rattle.std.proofs.lemmas.Nat.Bits.{bit_at_or, bit_at-zero, same_from_bits}
 use Rattle.pm_base.specs.declared.names.Mode.{Mode}
-use Rattle.pm_base.specs.declared.names.Mode.TheVariants.{Off, Active, Asleep, Suspending}
 use Rattle.pm_rows.specs.declared.row.Entry.{Entry}
 use Rattle.pm_rows.specs.declared.row.Row.{Row}
 use Rattle.pm_rows.specs.declared.wanted.Wanted.{Wanted}
 use Rattle.pm_rows.specs.Passes.{is_idle}
-use Rattle.pm_rows.specs.Rows.{cleared}
-use Rattle.pm_rows.specs.Shift.{is_start, preallocated, shifted_row}
 use Rattle.pm_rows.specs.Wanted.{both, least, limit_by, required_by}
 use Rattle.pm_rows.proofs.Left.{idle_is}
 use Rattle.pm_state.specs.Changes.{is_named, is_of}
@@ -37,43 +34,6 @@ idle_of e off = at (is_idle e.row) off
     at : (idle : Bool) → (not idle || false) ≡ false → idle ≡ true
     at true off = refl
     at false off = cc
-
--- a change of a mode leaves a row with nothing but its preset, unless the master starts with that
-shift_cleared : (from to : Mode) (taken : Bool) (row : Row) → (not (is_start from to) || (row.preset.0 == 0)) ≡ true
-    → shifted_row from to taken (cleared row) ≡ cleared row
-shift_cleared Off Off taken row is = refl
-shift_cleared Off Active taken row is = at (row.preset.0 == 0) refl is
-  where
-    at : (b : Bool) → (row.preset.0 == 0) ≡ b → b ≡ true → preallocated taken (cleared row) ≡ cleared row
-    at true none is = rw none refl
-    at false none is = cc
-shift_cleared Off Asleep taken row is = refl
-shift_cleared Off Suspending taken row is = refl
-shift_cleared Active Off taken row is = refl
-shift_cleared Active Active taken row is = refl
-shift_cleared Active Asleep taken row is = refl
-shift_cleared Active Suspending taken row is = refl
-shift_cleared Asleep Off taken row is = refl
-shift_cleared Asleep Active taken row is = refl
-shift_cleared Asleep Asleep taken row is = refl
-shift_cleared Asleep Suspending taken row is = refl
-shift_cleared Suspending Off taken row is = refl
-shift_cleared Suspending Active taken row is = refl
-shift_cleared Suspending Asleep taken row is = refl
-shift_cleared Suspending Suspending taken row is = refl
-
-pub idle_shifts : (from to : Mode) (taken : Bool) (row : Row) → is_idle row ≡ true → (not (is_start from to) || (row.preset.0 == 0)) ≡ true
-    → shifted_row from to taken row ≡ row
-idle_shifts from to taken row idle none =
-    let same = idle_is row idle in
-    ap (shifted_row from to taken) same ∙ (shift_cleared from to taken row none ∙ sym same)
-
--- it requires the same in each mode
-pub idle_needs : (from to : Mode) (e : Entry) → is_idle e.row ≡ true → required_by to e ≡ required_by from e
-idle_needs from to e idle =
-    let same = idle_is e.row idle in
-    ap (λ (row : Row). required_by to (record e { row = row })) same
-    ∙ sym (ap (λ (row : Row). required_by from (record e { row = row })) same)
 
 bits_none : (n : ℕ) → bit_or n 0 ≡ n
 bits_none n = same_from_bits (bit_or n 0) n (λ i. let either = bit_at_or n 0 i in let none = bit_at-zero i in omega arith)

@@ -1,6 +1,7 @@
 //! What a step writes down of what it touches, so that what is found by it needn't be found again for the whole chip.
 
-ghost use Rattle.std.specs.Prelude.{◌≡◌, [], IfOk, false, replicate, slice_set};
+ghost use Rattle.std.specs.Prelude.{◌≡◌, ◌≤◌, ◌<◌, ℕ, [], IfOk, Some, false, replicate, slice_get, slice_set};
+ghost use Rattle.pm_rows.specs.declared.row.Entry as declared;
 ghost use Rattle.pm_base.specs.declared.names.Mode.TheVariants.{Off};
 ghost use Rattle.pm_rows.specs.Rows.{mode_of};
 ghost use Rattle.pm_state.specs.Changes as spec;
@@ -89,9 +90,12 @@ impl Places {
     fn add_rows(&mut self, master: Option<usize>, starts: bool, rows: &Rows)
         ensures { self.new ≡ listed_rows (is_of master starts) rows.now.entries self.old }
     {
-        for k in 0..rows.len() {
+        let end = rows.len();
+        let mut k = next_row(master, 0, rows);
+        'entries: while k < end {
             let entry = rows.entry(k);
             self.add_if(is_of(master, starts, &entry), entry.seed.slave);
+            k = next_row(master, k + 1, rows);
         }
     }
 
@@ -136,6 +140,18 @@ fn is_named(named: Option<usize>, master: usize) -> bool
     match named {
         Some(m) => master == m,
         None => true,
+    }
+}
+
+/// A place from this one on before which no row stands of the master that is named, or of any if none is.
+fn next_row(named: Option<usize>, from: usize, rows: &Rows) -> usize
+    ensures after { from ≤ result }
+    ensures none { (j : ℕ) (entry : declared.Entry) → slice_get rows.now.entries j ≡ Some entry → from ≤ j → j < result
+        → spec.is_named named entry.seed.master ≡ false }
+{
+    match named {
+        Some(m) => rows.next_of(m, from),
+        None => from,
     }
 }
 

@@ -7,6 +7,7 @@ use Rattle.pm_rows.specs.declared.row.Row.{Row}
 use Rattle.pm_rows.specs.Counted.{blank_row}
 use Rattle.pm_rows.specs.Kept.{IsKept}
 use Rattle.pm_rows.proofs.Blank.{blank_kept}
+use Rattle.pm_rows.proofs.Linked.{linked_none}
 use Rattle.pm_rows.proofs.Ranges.{indexed_first}
 use Rattle.pm_rows.proofs.table.Table.blank.Goals as goal
 
@@ -58,4 +59,5 @@ invariant_of-result c =
           cells (omega arith) c.requires.few refl each refl
           (indexed_first none rows.0.1.first.items rows.0.1.past.items c.args.slaves 0 first past))),
       sym size,
+      linked_none rows.0.0.items _ _ (ap (λ (b : Bounded Pair). length b.items) seeds),
     )

@@ -32,6 +32,7 @@ invariant_of-self g c = (
       c.self.inside.spans.first.items c.self.inside.spans.past.items _ _ c.self.view_is c.self.invariant.0
       c.args.k c.args.row c.write.new.self (length c.follow.new.counts) c.stays_narrow-self-inside.result c.write.ensures c.follow.ensures.places c.stays_narrow-self-inside.ensures,
   c.self.invariant.1 ∙ sym (ap length c.write.ensures ∙ length-set c.self.inside.cells c.args.k c.args.row),
+  c.self.invariant.2,
 )
 
 pub invariant_of-self-2 : goal.invariant_of-self-2
@@ -40,6 +41,7 @@ invariant_of-self-2 g c = (
       c.self.inside.spans.first.items c.self.inside.spans.past.items _ _ c.self.view_is c.self.invariant.0
       c.args.k c.args.row c.write.new.self (length c.follow.new.counts) c.stays_narrow-self-inside.result c.write.ensures c.follow.ensures.places c.stays_narrow-self-inside.ensures,
   c.self.invariant.1 ∙ sym (ap length c.write.ensures ∙ length-set c.self.inside.cells c.args.k c.args.row),
+  c.self.invariant.2,
 )
 
 pub returns-clause-entries : goal.returns-clause-entries

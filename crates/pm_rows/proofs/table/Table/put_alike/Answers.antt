@@ -17,6 +17,7 @@ invariant_of-self g c = (
       c.self.inside.spans.first.items c.self.inside.spans.past.items _ _ c.self.view_is c.self.invariant.0
       c.args.k c.args.row c.write.new.self (length c.self.inside.users) c.stays_narrow-self-inside.result c.write.ensures refl c.stays_narrow-self-inside.ensures,
   c.self.invariant.1 ∙ sym (ap length c.write.ensures ∙ length-set c.self.inside.cells c.args.k c.args.row),
+  c.self.invariant.2,
 )
 
 pub returns-clause-entries : goal.returns-clause-entries

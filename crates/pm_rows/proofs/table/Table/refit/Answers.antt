@@ -7,6 +7,7 @@ use Rattle.pm_rows.specs.declared.row.Pair.{Pair}
 use Rattle.pm_rows.specs.declared.row.Row.{Row}
 use Rattle.pm_rows.specs.Counted.{Table, blank_entry, blank_row, entries_of, is_narrow_pair, is_placed_pair}
 use Rattle.pm_rows.specs.Kept.{IsKept}
+use Rattle.pm_rows.specs.Links.{IsLinked}
 use Rattle.pm_rows.specs.Rows.{pair_of}
 use Rattle.pm_rows.specs.Spans.{IsIndexed}
 use Rattle.pm_rows.proofs.Blank.{blank_kept, blank_rows, pairs_count, placed_pairs}
@@ -29,7 +30,7 @@ invariant_of-self c =
     let slaves : length c.self.inside.spans.first.items ≡ c.args.self.now.slaves = ap (λ (t : Table). t.slaves) c.self.view_is in
     let whole : room ≡ c.args.self.now.room = ap (λ (t : Table). t.room) c.self.view_is in
     let items : c.as_slice.result.now ≡ pairs = c.as_slice.ensures ∙ ap (λ (b : Bounded Pair). b.items) c.put_pairs.ensures in
-    let again : c.as_slice-2.result.now ≡ pairs = c.as_slice-2.ensures ∙ ap (λ (b : Bounded Pair). b.items) c.put_pairs.ensures in
+    let again : c.as_slice-3.result.now ≡ pairs = c.as_slice-3.ensures ∙ ap (λ (b : Bounded Pair). b.items) c.put_pairs.ensures in
     let each : length c.self.inside.spans.first.items ≡ users = c.self.invariant.0.each in
     let bound : Bounded Pair = record { items = pairs; room = room } in
     let is_bound : c.put_pairs.new.pairs ≡ bound =
@@ -48,6 +49,7 @@ invariant_of-self c =
           (c.are_narrow-self-inside.ensures ∙ ap (list_all is_narrow_pair) again)
           (subst Indexed items c.index.ensures.index)),
       sym size,
+      subst (λ (ps : List Pair). IsLinked 0 ps c.link.new.self.first.items c.link.new.self.next.items) c.as_slice-2.ensures c.link.ensures,
     )
 
 pub returns : goal.returns
