@@ -1,5 +1,5 @@
 -- The outbox: the room that it has, and what a step puts into it.
-use Rattle.std.specs.Prelude.{◌≡◌, ℕ, ◌+◌, ◌≤◌, List, [], length, Option, None}
+use Rattle.std.specs.Prelude.{◌≡◌, ℕ, ◌+◌, ◌≤◌, false, List, [], length, Option, None}
 use Rattle.pm_base.specs.declared.names.LineId.{LineId}
 use Rattle.pm_base.specs.declared.names.Unit.{Unit}
 use Rattle.pm_topology.specs.declared.topology.Topology.{Topology}
@@ -40,6 +40,7 @@ pub record KeepsRoom (before after : Outbox) : Type 0 where
 
 pub record IsEmpty (out : Outbox) : Type 0 where
   pub moved : out.moved.items ≡ []
+  pub turned : out.turned ≡ false
   pub pulse : out.pulse ≡ None
   pub done : out.done.items ≡ []
   pub starts : out.starts.items ≡ []
