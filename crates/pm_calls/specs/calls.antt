@@ -1,4 +1,4 @@
--- The calls, one file each; what each does over a book, whether it has one stage, and its shape.
+-- The calls, one file each; what each does over a book, and its shape.
 pub mod AbortSuspend
 pub mod ForcePowerdown
 pub mod GetApiVersion

@@ -120,12 +120,12 @@ impl Book {
     }
 
     /// One event. A message of a configured master that is active or suspending is a call, which is
-    /// checked, changes the book where all checks pass, and is answered as its acknowledge kind says. A
+    /// checked, changes the book if all checks pass, and is answered as its acknowledge kind says. A
     /// boot loader starts a processor that is off and that a configured master has, and a suspending one
     /// that waits for an interrupt sleeps. An interrupt wakes a processor that is asleep or suspending: one at
     /// the processor itself, or that of a slave on which a row is armed with the processor. With a tick time
     /// passes for each request to suspend. Such a request ends if its target becomes asleep or off, goes
-    /// on in place of suspending or aborts, or where its time is over. No other event changes the book. The
+    /// on in place of suspending or aborts, or if its time is over. No other event changes the book. The
     /// outbox, which was loaded for the book's topology and masters, then holds what this step puts out, in the
     /// room that it had. No memory is taken.
     #[tactic(auto, using(pm_step::proofs::Refused::refused_stays))]

@@ -26,7 +26,7 @@ pub fn word_text(line: &[u8], k: usize) -> Option<&[u8]>
     Some(&line[start..end])
 }
 
-/// Between which bytes the `k`-th word of a line is, if it has so many before a comment.
+/// `word` of a line without its carriage return: the first place of the `k`-th word and the place after its end.
 fn word_of(text: &[u8], k: usize) -> Option<(usize, usize)>
     ensures { result ≡ slice_get (words_from None 0 text.now) k }
 {

@@ -252,7 +252,7 @@ impl Draft {
     {
         if let Some(cause) = self.end_cause() {
             let fault = self.fault(cause);
-            // Let go here, at a type that is any, which costs less to prove.
+            // Dropped here, by a generic function: that is cheaper to prove.
             drop(self);
             return Err(fault);
         }

@@ -1,4 +1,4 @@
-//! The events that a call comes to.
+//! The events that a power call becomes.
 
 ghost use Rattle.std.specs.Prelude.{◌≡◌, slice_get, true, [], ◌∷◌};
 ghost use Rattle.pm_psci.specs.Refusal.{are_valid};
@@ -10,9 +10,8 @@ use crate::targets::{MASTER, target_at};
 use pm_base::{Event, Message, NodeId};
 use pm_topology::Topology;
 
-/// The event at a place, counted from 0, of those that a call comes to. They are a message of master 1, and for
-/// CPU_OFF that the caller waits for an interrupt after it; a refused call comes to one `Pass`. `None` past the
-/// last one.
+/// The `k`-th event, counted from 0, of those that a power call becomes, and `None` past the last one. A call becomes one
+/// message of master 1; CPU_OFF also the caller's wait for an interrupt. A refused call becomes `Pass`.
 pub fn lower(t: &Topology, smc: &Smc, k: usize) -> Option<Event>
     ensures { result ≡ slice_get (lowered t.now smc.now) k }
 {
@@ -22,7 +21,7 @@ pub fn lower(t: &Topology, smc: &Smc, k: usize) -> Option<Event>
     sent(t, smc, &decode_function(smc), k)
 }
 
-/// The event at a place of those that a call comes to which isn't refused.
+/// The `k`-th event of a power call that isn't refused.
 fn sent(t: &Topology, smc: &Smc, function: &Function, k: usize) -> Option<Event>
     requires { are_valid t.now function.now ≡ true }
     ensures { result ≡ slice_get (or_pass (sent t.now smc.now function.now)) k }
@@ -49,7 +48,7 @@ fn sent(t: &Topology, smc: &Smc, function: &Function, k: usize) -> Option<Event>
     }
 }
 
-/// The event at a place of this event alone.
+/// This event at place 0, and none at any other place.
 fn alone(event: Event, k: usize) -> Option<Event>
     ensures { result ≡ slice_get (event ∷ []) k }
 {

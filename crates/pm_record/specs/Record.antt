@@ -17,7 +17,7 @@ Kept = List (Unit × KeptValue)
 abbrev pub idle : KeptValue
 idle = record { value = 0; lags = false }
 
--- what is kept of a unit, and of one that isn't there as of an idle one
+-- the record's entry of a unit; an idle one if the unit isn't there
 abbrev pub kept_of : Kept → Unit → KeptValue
 kept_of kept unit = unwrap_or (value_of kept unit) idle
 

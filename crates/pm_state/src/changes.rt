@@ -1,4 +1,4 @@
-//! What a step writes down of what it touches, so that what is found by it needn't be found again for the whole chip.
+//! What a step touches, written down by each change, so that the later phases of the step visit nothing else.
 
 ghost use Rattle.std.specs.Prelude.{◌≡◌, ◌≤◌, ◌<◌, ℕ, [], IfOk, Some, false, replicate, slice_get, slice_set};
 ghost use Rattle.pm_rows.specs.declared.row.Entry as declared;
@@ -12,9 +12,9 @@ use pm_rows::{Entry, Rows};
 use std::alloc::Global;
 use std::marker::Model;
 
-/// Places that are written down, each once, of so many. Contracts see them in the order in which they were written, and
-/// how many places there are. Beside the list stands a mark for each place: no search tells whether one is written down,
-/// and to forget them takes as long as there are some.
+/// A set of places below a fixed count. Contracts see the count, and the places in the order in which they were written
+/// down. With a mark for each place no search is needed to tell whether one is in the set, and to empty it takes as long
+/// as it has places.
 #[derive(Drop)]
 pub struct Places {
     marks: Vec<bool>,
@@ -85,8 +85,8 @@ impl Places {
         }
     }
 
-    /// Writes down the slaves of the rows of the master at a place, or of all rows if none is named, which aren't idle,
-    /// or get their preset where the master starts from off.
+    /// Writes down the slaves of those rows that aren't idle, or get a preset if the master starts from off: the rows of the
+    /// master at a place, or all rows if none is named.
     fn add_rows(&mut self, master: Option<usize>, starts: bool, rows: &Rows)
         ensures { self.new ≡ listed_rows (is_of master starts) rows.now.entries self.old }
     {

@@ -42,9 +42,9 @@ pub fn configures(event: &Event) -> bool
     }
 }
 
-/// One event: the book after its stages, what they wrote down, the verdict on a message, and what is logged of the step
-/// until the masters are told of it: their modes before it, and what became of those along it. If no processor is written
-/// down, nothing is logged behind the first moment.
+/// Takes an event: carries out its stages, which write down what they touch, and leaves the verdict on a message in
+/// `taken`. Until the masters are told, `telling` has their modes before the step, and what became of these along it. If no
+/// processor is written down, nothing is logged behind the first moment.
 pub fn advance(
     tables: &mut Tables,
     changes: &mut Changes,
@@ -85,8 +85,7 @@ pub fn begin(tables: &Tables, telling: &mut Telling)
     telling.along.start(tables);
 }
 
-/// Begins what is logged of the next step behind one that is logged. If that moved no processor, what is logged is as it
-/// was before it.
+/// Begins the log of the next step. If this step moved no processor, its log still fits, and stays.
 pub fn begin_after(tables: &Tables, telling: &mut Telling)
     requires places { HasPlaces tables.now.fixed.topology (length tables.now.fixed.object.masters) telling.old }
     requires fresh { telling.old.moved ≡ false → IsFresh tables.now telling.old }
@@ -98,8 +97,8 @@ pub fn begin_after(tables: &Tables, telling: &mut Telling)
     }
 }
 
-/// Its stages and its verdict. Logging the modes after them completes what was logged along the step. If no processor is
-/// written down, nothing was logged along it.
+/// Carries out the stages of an event, and leaves the verdict on a message in `taken`. The modes after the last stage
+/// aren't logged yet. If no processor is written down, nothing was logged along the step.
 fn take(
     tables: &mut Tables,
     changes: &mut Changes,

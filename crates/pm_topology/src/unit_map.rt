@@ -143,7 +143,7 @@ impl<T: Copy + Drop> UnitMap<T> {
     }
 }
 
-/// The table of units that rise, each with the same value.
+/// A table of these units, which come in rising order, each with the same value.
 fn filled<T: Copy + Drop>(alloc: Global, units: &[Unit], value: T) -> Result<UnitMap<T>, NoMemory>
     requires { rises units.now ≡ true }
     ensures { IfOk result (λ map. map ≡ all_at value units.now) }
@@ -153,12 +153,12 @@ fn filled<T: Copy + Drop>(alloc: Global, units: &[Unit], value: T) -> Result<Uni
     Ok(UnitMap { entries, places })
 }
 
-/// One past the highest number of a node whose place is kept by number.
+/// The length of the list of places by number: one past the highest number of a node that is below `NUMBERED`, or 0.
 fn end_of_numbers(units: &[Unit]) -> u32 {
     units.iter().map(end_of_number).max().unwrap_or(0)
 }
 
-/// One past the number of a node whose place is kept by number, and 0 of another unit.
+/// One past the number of a node, if that is below `NUMBERED`; 0 of any other unit.
 fn end_of_number(unit: &Unit) -> u32 {
     match unit {
         Unit::Node(node) if node.0 < NUMBERED => node.0 + 1,

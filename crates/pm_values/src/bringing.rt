@@ -1,4 +1,4 @@
-//! What is kept of the values follows a step by what that wrote down.
+//! Bringing the values up to date after a step, by what it wrote down.
 
 ghost use Rattle.std.specs.Prelude.{◌≡◌, ℕ, ◌<◌, ◌⊎◌, [], Some, false, length, slice_get, true};
 ghost use Rattle.pm_topology.specs.UnitMap.{units_in};
@@ -25,8 +25,8 @@ use pm_state::{Changes, Tables};
 use pm_topology::{LineDef, Topology, UnitMap, kinds_are_exact, units_stand_in_order};
 
 impl Caches {
-    /// Brings all that is kept up to date, as `update` does, but visits what the step wrote down alone, the processors and
-    /// the power nodes, and nothing if no unit is written down.
+    /// Finds again what is kept of the values after a step. It visits only the units that the step wrote down, and then the
+    /// processors and the power nodes; nothing if no unit is written down. `update` finds the same by visiting all units.
     pub fn bring(
         &mut self,
         changes: &Changes,
