@@ -1,9 +1,5 @@
-"""`names [--json]`: each name with its number, a line `KIND NUMBER NAME` each.
+"""`names [--json]`: each name with its number, a line `KIND NUMBER NAME` each."""
 
-`python3 views/name_list.py` writes those that docs/FORMATS.md has.
-"""
-
-import textwrap
 from typing import Iterator, NamedTuple
 
 import findings
@@ -56,28 +52,9 @@ def in_json() -> list[dict[str, object]]:
     return [{**row._asdict(), "more": row.more.lstrip(",: ")} for row in rows()]
 
 
-def markdown() -> str:
-    """The names that docs/FORMATS.md has: the clocks, and the words of arguments, records and statuses."""
-    roots = ", ".join(f"{number} {names.clock_name(number)}" for number in names.CLOCKS if names.is_root(number))
-    others = [number for number in names.CLOCKS if not names.is_root(number)]
-    fed = ", ".join(f"{number} {names.clock_name(number)} ({', '.join(map(names.clock_name, names.CLOCKS[number].parents))})" for number in others)
-    clocks = f"The roots are {roots}; the other clocks, with their parents by index, {fed}."
-    words = [f"- {kind}: " + ", ".join(f"{written(kind, number)} {name}" for number, name in table.items()) for kind, table in names.WORDS.items()]
-    return "\n".join([_wrapped(clocks), "", *map(_wrapped, words)]) + "\n"
-
-
-def _wrapped(text: str) -> str:
-    """A paragraph, or an item of a list, in lines of the documents."""
-    return textwrap.fill(text, 118, subsequent_indent="  " * text.startswith("- "))
-
-
 def main(words: list[str]) -> int:
     """Writes each name on a line of its own, or all as a list for a robot, and gives the exit."""
     if words not in ([], ["--json"]):
         raise BadUse("names takes no words but --json: search what it writes")
     print(findings.whole("names", 0, names=in_json()) if words else "".join(line + "\n" for line in lines()), end="")
     return 0
-
-
-if __name__ == "__main__":
-    print(markdown(), end="")
